@@ -1,0 +1,1 @@
+// The mathematics that the contracts of the other crates are stated in. Read specs/: it has no code.
