@@ -1,3 +1,8 @@
+// The limits of a table.
+pub const MOST_STATES: u32 = 1024;
+
+pub const MOST_ROWS: usize = 4096;
+
 // A row of a table: a transition from one state by an action's code to another, as it is handed in.
 #[derive(Clone, Copy, PartialEq, Eq, Debug)]
 pub struct Row {
@@ -6,7 +11,7 @@ pub struct Row {
     pub to: u32,
 }
 
-// Why rows are no table; a row is named by its index.
+// Why rows are no table. A faulty row is named by its index.
 #[derive(Clone, Copy, PartialEq, Eq, Debug)]
 pub enum RowRefusal {
     StateCount,
@@ -14,3 +19,7 @@ pub enum RowRefusal {
     NoSuchState(usize),
     NoSuchAction(usize),
 }
+
+mod check;
+
+pub use check::check_rows;

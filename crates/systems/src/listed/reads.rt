@@ -1,10 +1,6 @@
 ghost use mathlib.Core.Path.{_≡_};
 ghost use lib.ListN.{length};
-ghost use Rattle.std.specs.Of.Vec.{vec-items};
-ghost use Rattle.theory.proofs.Stores.{stored-lawful};
-ghost use Rattle.actions.specs.Transitions.{moves-of};
-ghost use Rattle.actions.proofs.Transitions.{sound-inside};
-ghost use Rattle.systems.specs.Listings.{listed};
+ghost use Rattle.systems.specs.Listings.{listed, listed-lawful};
 use super::Listed;
 use crate::system::System;
 use actions::action::Action;
@@ -12,7 +8,7 @@ use actions::action::Action;
 pub impl System for Listed as ListedSystem {
     ghost meaning = { listed };
 
-    ghost lawful = { λ x. stored-lawful (x .n) (x .w) (vec-items (x .cuts)) (moves-of (vec-items (x .list))) (x .few) (x .narrow) (x .cut) (x .short) (sound-inside (x .n) (vec-items (x .list)) (x .inside)) (x .empty) };
+    ghost lawful = { listed-lawful };
 
     fn states(&self) -> usize {
         self.n
