@@ -5,3 +5,5 @@ pub mod Grids
 pub mod Passes
 pub mod Counts
 pub mod Rounds
+pub mod Runs
+pub mod Ranges
