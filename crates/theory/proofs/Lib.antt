@@ -4,3 +4,7 @@ pub mod Faults
 pub mod Scans
 pub mod Patients
 pub mod Laws
+pub mod Truth
+pub mod Members
+pub mod Equivalence
+pub mod Standing

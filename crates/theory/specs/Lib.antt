@@ -7,3 +7,5 @@ pub mod Limits
 pub mod Stores
 pub mod Tables
 pub mod Faults
+pub mod Equivalence
+pub mod Standing
