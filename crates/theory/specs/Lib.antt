@@ -9,3 +9,4 @@ pub mod Tables
 pub mod Faults
 pub mod Equivalence
 pub mod Standing
+pub mod Designs

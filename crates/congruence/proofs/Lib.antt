@@ -1,0 +1,7 @@
+pub mod Guarded
+pub mod Placed
+pub mod Recodings
+pub mod Sums
+pub mod Parallels
+pub mod Ranges
+pub mod Expressions
