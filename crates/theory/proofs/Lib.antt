@@ -8,3 +8,4 @@ pub mod Truth
 pub mod Members
 pub mod Equivalence
 pub mod Standing
+pub mod OperatorLaws
