@@ -9,3 +9,7 @@ pub mod Members
 pub mod Equivalence
 pub mod Standing
 pub mod OperatorLaws
+pub mod Truth
+pub mod Members
+pub mod Equivalence
+pub mod Standing
