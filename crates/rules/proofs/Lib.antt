@@ -1,0 +1,5 @@
+pub mod Tools
+pub mod Choices
+pub mod Coded
+pub mod Pairings
+pub mod Recodings
