@@ -9,7 +9,3 @@ pub mod Members
 pub mod Equivalence
 pub mod Standing
 pub mod OperatorLaws
-pub mod Truth
-pub mod Members
-pub mod Equivalence
-pub mod Standing
