@@ -1,0 +1,3 @@
+// The comparison of two systems under a layer.
+mod pass;
+mod strike;
