@@ -64,7 +64,12 @@ fn has_answer<Y: Layer, T: System>(to: (Action, usize), other: State<T>, board: 
 }
 
 // The transition counts, and none of the other state's answers it.
-fn is_loose<Y: Layer, T: System>(m: (Action, usize), calm: bool, other: State<T>, board: Board) -> bool
+fn is_loose<Y: Layer, T: System>(
+    m: (Action, usize),
+    calm: bool,
+    other: State<T>,
+    board: Board,
+) -> bool
     requires { ⌜ ((y : ℕ) → y < T·System .meaning (now (other .system)) .n → m .1 * board .across + y * board .down < length (now (board .cells))) ⌝ }
     ensures { λ r. ⌜ r ≡ (keeps-move (Y·Layer .rule) calm (move-of m) && not (answered (on-grid (now (board .entry .cells)) (board .entry .round) (board .entry .across) (board .entry .down)) (kept-by (keeps-move (Y·Layer .rule) (other .entry .calm)) (T·System .meaning (now (other .entry .system)) .moves (other .entry .s))) (move-of m))) ⌝ }
 {
@@ -87,7 +92,12 @@ fn is_stuck<Y: Layer, S: System, T: System>(mine: State<S>, other: State<T>, boa
 }
 
 // Some transition of either state that counts has no answer.
-pub fn is_unanswered<Y: Layer, S: System, T: System>(left: State<S>, right: State<T>, cells: &[u32], round: u32) -> bool
+pub fn is_unanswered<Y: Layer, S: System, T: System>(
+    left: State<S>,
+    right: State<T>,
+    cells: &[u32],
+    round: u32,
+) -> bool
     requires room { ⌜ S·System .meaning (now (left .system)) .n * T·System .meaning (now (right .system)) .n ≤ length (now cells) ⌝ }
     requires left { ⌜ left .calm ≡ Y·Layer .rule .calm (S·System .meaning (now (left .system)) .moves (left .s)) ⌝ }
     requires right { ⌜ right .calm ≡ Y·Layer .rule .calm (T·System .meaning (now (right .system)) .moves (right .s)) ⌝ }
