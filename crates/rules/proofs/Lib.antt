@@ -3,3 +3,4 @@ pub mod Choices
 pub mod Coded
 pub mod Pairings
 pub mod Recodings
+pub mod Following

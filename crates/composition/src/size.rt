@@ -1,0 +1,6 @@
+// How large a system is that keeps the limits.
+#[derive(Clone, Copy, PartialEq, Eq, Debug)]
+pub struct Size {
+    pub states: usize,
+    pub width: usize,
+}
