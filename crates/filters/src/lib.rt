@@ -1,0 +1,2 @@
+// Asking a system for those transitions of a state whose actions pass a test.
+pub mod kept;
