@@ -18,13 +18,13 @@ loop-i-again g c =
     let p = by-code (g .P·Keeps .passes (c .args .test .now)) in
     let ms = g .S·System .meaning (c .args .system .now) .moves (c .args .s) in
     elim (c .match-nth .came) [
-      in-Some·then-keeps·else-left-eq0 w ↦
-        let e = w .in-Some .ensures tt in
-        omega (arith, w .left-is, scan-yes p ms (c .loop-i .i) (0, 0) (move-of (w .in-Some .m)) (e .0) (e .1) (sym (w .if-keeps .ensures tt)))
-    | in-Some·else-keeps w ↦
-        let e = w .in-Some .ensures tt in
-        omega (arith, w .left-is, scan-no p ms (c .loop-i .i) (0, 0) (move-of (w .in-Some .m)) (e .0) (e .1) (sym (w .if-keeps .ensures tt)))
-    | in-rest w ↦ omega (arith, w .in-rest .ensures tt)
+      | in-Some·then-keeps·else-left-eq0 w ↦
+          let e = w .in-Some .ensures tt in
+          omega (arith, w .left-is, scan-yes p ms (c .loop-i .i) (0, 0) (move-of (w .in-Some .m)) (e .0) (e .1) (sym (w .if-keeps .ensures tt)))
+      | in-Some·else-keeps w ↦
+          let e = w .in-Some .ensures tt in
+          omega (arith, w .left-is, scan-no p ms (c .loop-i .i) (0, 0) (move-of (w .in-Some .m)) (e .0) (e .1) (sym (w .if-keeps .ensures tt)))
+      | in-rest w ↦ omega (arith, w .in-rest .ensures tt)
     ]
 
 pub returns : need.returns
