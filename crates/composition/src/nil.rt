@@ -6,7 +6,7 @@ use actions::action::Action;
 use systems::system::System;
 
 // The process that does nothing: one state, no transition.
-#[derive(Clone, Copy, PartialEq, Eq, Debug)]
+#[derive(Clone, Copy)]
 pub struct Nil;
 
 impl Nil {

@@ -1,12 +1,12 @@
 ghost use mathlib.Core.Path.{_≡_};
-ghost use Prim.Native.Nat.{_+_, max};
 ghost use lib.Dec.{ltb};
 ghost use denote.Ref.{now};
+ghost use Rattle.theory.specs.Operators.{prefix};
 ghost use Rattle.theory.specs.Limits.{prefix-limited};
 ghost use Rattle.theory.proofs.OperatorLaws.{prefix-lawful};
 ghost use Rattle.rules.specs.Rules.{Prefix-rule};
 ghost use Rattle.rules.specs.Derived.{Follows-within};
-ghost use Rattle.composition.specs.Sizes.{Sized};
+ghost use Rattle.composition.specs.Sizes.{Size-of};
 use super::limits::sized;
 use super::placed::nth_placed;
 use super::size::Size;
@@ -34,7 +34,7 @@ impl<S: System> Prefix<S> {
     }
 
     fn size(&self) -> Option<Size>
-        ensures { λ r. ⌜ Sized (ltb (now (self .entry) .start) (S·System .meaning (now (self .entry) .below) .n)) (S·System .meaning (now (self .entry) .below) .n + 1) (max (S·System .meaning (now (self .entry) .below) .w) 1) r ⌝ }
+        ensures { λ r. ⌜ Size-of (ltb (now (self .entry) .start) (S·System .meaning (now (self .entry) .below) .n)) (prefix (now (self .entry) .action .code) (now (self .entry) .start) (S·System .meaning (now (self .entry) .below))) r ⌝ }
     {
         let n = self.below.states();
         let w = self.below.width();

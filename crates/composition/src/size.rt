@@ -1,5 +1,5 @@
 // How large a system is that keeps the limits.
-#[derive(Clone, Copy, PartialEq, Eq, Debug)]
+#[derive(Clone, Copy)]
 pub struct Size {
     pub states: usize,
     pub width: usize,

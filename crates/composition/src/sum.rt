@@ -1,13 +1,13 @@
 ghost use mathlib.Core.Path.{_≡_};
 ghost use mathlib.Core.Bool.{_&&_};
-ghost use Prim.Native.Nat.{_+_};
 ghost use lib.Dec.{ltb};
 ghost use denote.Ref.{now};
+ghost use Rattle.theory.specs.Operators.{sum};
 ghost use Rattle.theory.specs.Limits.{sum-limited};
 ghost use Rattle.theory.proofs.OperatorLaws.{sum-lawful};
 ghost use Rattle.rules.specs.Rules.{Sum-rule};
 ghost use Rattle.rules.specs.Derived.{Follows-within};
-ghost use Rattle.composition.specs.Sizes.{Sized};
+ghost use Rattle.composition.specs.Sizes.{Size-of};
 use super::limits::sized;
 use super::placed::nth_placed;
 use super::size::Size;
@@ -38,16 +38,13 @@ impl<L: System, R: System> Sum<L, R> {
     }
 
     fn size(&self) -> Option<Size>
-        ensures { λ r. ⌜ Sized (ltb (now (self .entry) .«left_start») (L·System .meaning (now (self .entry) .left) .n) && ltb (now (self .entry) .«right_start») (R·System .meaning (now (self .entry) .right) .n)) (L·System .meaning (now (self .entry) .left) .n + R·System .meaning (now (self .entry) .right) .n + 1) (L·System .meaning (now (self .entry) .left) .w + R·System .meaning (now (self .entry) .right) .w) r ⌝ }
+        ensures { λ r. ⌜ Size-of (ltb (now (self .entry) .«left_start») (L·System .meaning (now (self .entry) .left) .n) && ltb (now (self .entry) .«right_start») (R·System .meaning (now (self .entry) .right) .n)) (sum (now (self .entry) .«left_start») (now (self .entry) .«right_start») (L·System .meaning (now (self .entry) .left)) (R·System .meaning (now (self .entry) .right))) r ⌝ }
     {
         let n1 = self.left.states();
         let n2 = self.right.states();
         let w = self.left.width() + self.right.width();
-        sized(
-            self.left_start < n1 && self.right_start < n2,
-            n1 + n2 + 1,
-            w,
-        )
+        let starts = self.left_start < n1 && self.right_start < n2;
+        sized(starts, n1 + n2 + 1, w)
     }
 }
 
