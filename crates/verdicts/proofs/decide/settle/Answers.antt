@@ -1,0 +1,39 @@
+use mathlib.Core.Path.{_∙_}
+use native.Mathlib.Omega.{arith}
+use Rattle.verdicts.proofs.Histories.{never-refused, run-again, run-settles, swept-past}
+use Rattle.verdicts.proofs.decide.settle.Needs as need
+
+pub loop-step-again : need.loop-step-again
+loop-step-again g c =
+    let y = g .Y·Layer .rule in
+    let A = g .S·System .meaning (c .args .left .now) in
+    let B = g .T·System .meaning (c .args .right .now) in
+    let lA = g .S·System .lawful (c .args .left .now) in
+    let lB = g .T·System .lawful (c .args .right .now) in
+    let e = c .in-Ok .ensures tt in (
+      run-again y A B lA lB (c .loop-step .current) (c .loop-step .cells) (c .sweep .last .cells) (e .cells) (c .loop-step .inv .0) (c .in-Again .next) (c .in-Ok .step) (e .answer) (c .in-Again .is) (omega arith),
+      λ i l. swept-past y A B lA lB (c .loop-step .current) (c .loop-step .cells) (c .sweep .last .cells) (e .cells) i l ∙ c .loop-step .inv .1 i l,
+    )
+
+pub returns-in-Done : need.returns-in-Done
+returns-in-Done g c =
+    let y = g .Y·Layer .rule in
+    let A = g .S·System .meaning (c .args .left .now) in
+    let B = g .T·System .meaning (c .args .right .now) in
+    let lA = g .S·System .lawful (c .args .left .now) in
+    let lB = g .T·System .lawful (c .args .right .now) in
+    let e = c .in-Ok .ensures tt in
+    record {
+      settled = run-settles y A B lA lB (c .loop-step .current) (c .loop-step .cells) (c .sweep .last .cells) (e .cells) (c .loop-step .inv .0) (c .in-Done .settled) (c .in-Ok .step) (e .answer) (c .in-Done .is) (omega arith);
+      past = λ i l. swept-past y A B lA lB (c .loop-step .current) (c .loop-step .cells) (c .sweep .last .cells) (e .cells) i l ∙ c .loop-step .inv .1 i l;
+    }
+
+pub returns-in-Err : need.returns-in-Err
+returns-in-Err g c =
+    let y = g .Y·Layer .rule in
+    let A = g .S·System .meaning (c .args .left .now) in
+    let B = g .T·System .meaning (c .args .right .now) in
+    let lA = g .S·System .lawful (c .args .left .now) in
+    let lB = g .T·System .lawful (c .args .right .now) in
+    let e = c .in-Err .ensures tt in
+    absurd (never-refused y A B lA lB (c .loop-step .current) (c .loop-step .cells) (c .sweep .last .cells) (e .cells) (c .loop-step .inv .0) (c .in-Err .refused) (e .answer))

@@ -1,0 +1,3 @@
+// A whole comparison in one call, from begin to the verdict.
+pub mod decide;
+pub mod relations;
