@@ -28,7 +28,7 @@ use Rattle.comparison.specs.declared.comparison.Refusal.{Refusal}
 use Rattle.comparison.specs.declared.comparison.Refusal.the-variants.{Outsize, FewCells, OtherSizes, TooManySweeps, NoSuchState}
 use Rattle.comparison.specs.declared.comparison.Verdict.{Verdict}
 use Rattle.comparison.specs.declared.comparison.Verdict.the-variants.{Equal, Different}
-use Rattle.verdicts.specs.Decisions.{decide-fault, True-of, Past, Final, Left-by, Decided-cells, OpenByRun}
+use Rattle.verdicts.specs.Decisions.{decide-fault, True-of, Past, Final, Left-by, Judged-cells, OpenByRun, Decided-cells}
 
 -- A call that is to make the cells of the pairs new leaves those past them, whatever it answers.
 past-after : (fault : Option Refusal) (size i new old : ℕ) → size ≤ i → cell-after fault (ltb i size) new old ≡ old
@@ -94,7 +94,7 @@ module _ {Y : Type 0} (y : Layering) (A B : Lts) (lawful-left : Lawful A) (lawfu
         (d .1 ∙ h .0, d .2 ∙ h .1, omega (arith, h .2, len), run-on (next .made) false (d .3) (d .0))
 
 -- The cells in the end.
-pub final-cells : (y : Layering) (A B : Lts) → Lawful A → Lawful B → (made : ℕ) (old new : List ℕ) → begin-fault (A .n) (B .n) (length old) ≡ None → Run (shown y A) (shown y B) false made new → Past (A .n * B .n) old new → Decided-cells y A B old new
+pub final-cells : (y : Layering) (A B : Lts) → Lawful A → Lawful B → (made : ℕ) (old new : List ℕ) → begin-fault (A .n) (B .n) (length old) ≡ None → Run (shown y A) (shown y B) false made new → Past (A .n * B .n) old new → Judged-cells y A B old new
 final-cells y A B lawful-left lawful-right made old new none run past =
     subst (λ f. Left-by f y A B old new) (sym none) (runs-exact (shown y A) (shown y B) (shown-in-range y A lawful-left) (shown-in-range y B lawful-right) made new run, past)
 
@@ -146,3 +146,16 @@ module _ {Y : Type 0} (y : Layering) (A B : Lts) (o : Settled Y) (cells : List �
         where
           inside : (u v : Verdict) → _≡_ {A = Result Verdict Refusal} (Ok u) (Ok v) → u ≡ v
           inside u v k = grind arith
+
+-- The questions of begin are among those of the whole.
+begin-passes : (n1 n2 len s t : ℕ) → decide-fault n1 n2 len s t ≡ None → begin-fault n1 n2 len ≡ None
+begin-passes n1 n2 len s t = go (ltb 0 n1 && ltb 0 n2) (leb (n1 * n2) len) (cond (ltb s n1 && ltb t n2) None (Some NoSuchState))
+  where
+    go : (a b : Bool) (own : Option Refusal) → cond a (cond b own (Some FewCells)) (Some Outsize) ≡ None → cond a (cond b None (Some FewCells)) (Some Outsize) ≡ None
+    go true true own h = refl
+    go true false own h = h
+    go false b own h = h
+
+pub judged-decided : (y : Layering) (A B : Lts) (old : List ℕ) (s t : ℕ) (new : List ℕ) → None ≡ decide-fault (A .n) (B .n) (length old) s t → Judged-cells y A B old new → Decided-cells y A B old s t new
+judged-decided y A B old s t new none h =
+    subst (λ f. Left-by f y A B old new) none (subst (λ f. Left-by f y A B old new) (begin-passes (A .n) (B .n) (length old) s t (sym none)) h)

@@ -46,13 +46,17 @@ Past size old new = (i : ℕ) → size ≤ i → getD new i 0 ≡ getD old i 0
 abbrev pub Final : Layering → Lts → Lts → List ℕ → Type 0
 Final y A B cells = (s t : ℕ) → s < A .n → t < B .n → ((getD cells (s * B .n + t) 0 ≡ 0) ↔ Equal-under y A B s t) × ((k : ℕ) → (getD cells (s * B .n + t) 0 ≡ suc k) ↔ Struck-in (shown y A) (shown y B) (suc k) s t)
 
--- Where begin refuses, no cell is written. Else the comparison is made to its end, even if a state asked for does not exist.
+-- A refusal writes no cell. Else the comparison is made to its end.
 abbrev pub Left-by : Option Refusal → Layering → Lts → Lts → List ℕ → List ℕ → Type 0
 Left-by (Some f) y A B old new = (i : ℕ) → getD new i 0 ≡ getD old i 0
 Left-by None y A B old new = Final y A B new × Past (A .n * B .n) old new
 
-abbrev pub Decided-cells : Layering → Lts → Lts → List ℕ → List ℕ → Type 0
-Decided-cells y A B old new = Left-by (begin-fault (A .n) (B .n) (length old)) y A B old new
+abbrev pub Decided-cells : Layering → Lts → Lts → List ℕ → ℕ → ℕ → List ℕ → Type 0
+Decided-cells y A B old s t new = Left-by (decide-fault (A .n) (B .n) (length old) s t) y A B old new
+
+-- The same without the question for the states.
+abbrev pub Judged-cells : Layering → Lts → Lts → List ℕ → List ℕ → Type 0
+Judged-cells y A B old new = Left-by (begin-fault (A .n) (B .n) (length old)) y A B old new
 
 -- The comparison and the cells come from a run on M and N: one that is open, and one that is settled.
 abbrev pub OpenByRun : {Y : Type 0} → Lts → Lts → Open Y → List ℕ → Type 0
