@@ -42,7 +42,13 @@ fn settle<Y: Layer, S: System, T: System>(
     }
 }
 
-fn refuses<S: System, T: System>(left: &S, right: &T, len: usize, s: usize, t: usize) -> Option<Refusal>
+fn refuses<S: System, T: System>(
+    left: &S,
+    right: &T,
+    len: usize,
+    s: usize,
+    t: usize,
+) -> Option<Refusal>
     ensures { λ r. ⌜ r ≡ decide-fault (S·System .meaning (now (left .entry)) .n) (T·System .meaning (now (right .entry)) .n) len s t ⌝ }
 {
     let n1 = left.states();
