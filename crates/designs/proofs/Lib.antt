@@ -1,1 +1,4 @@
 pub mod DesignTables
+pub mod Sizes
+pub mod Readings
+pub mod Checking

@@ -1,5 +1,5 @@
 -- What an operation is in plain numbers.
-use Rattle.designs.specs.Forms.{Form} 
+use Rattle.designs.specs.Forms.{Form}
 use Rattle.designs.specs.Forms as forms
 use Rattle.designs.specs.declared.operation.Operation.{Operation}
 use Rattle.designs.specs.declared.operation.Operation.the-variants.{Nil, Prefix, Sum, Parallel, Restrict, Rename, Raise, Lower}

@@ -8,12 +8,12 @@ ghost use Rattle.std.specs.declared.option.Option.the-variants.{Some, None};
 ghost use Rattle.theory.specs.Codes.{lawful-code, lawful-word, lawful-channel};
 ghost use Rattle.designs.specs.Operations.{form-of};
 ghost use Rattle.designs.specs.Nodes.{said, fault, form};
-use actions::action::Action;
-use actions::pair::ChannelPair;
-use actions::renaming::Renaming;
 use super::node::Node;
 use super::operation::Operation;
 use super::refusal::NodeRefusal;
+use actions::action::Action;
+use actions::pair::ChannelPair;
+use actions::renaming::Renaming;
 
 fn action_of(i: usize, node: Node) -> Result<Action, NodeRefusal>
     ensures { λ r. ⌜ Cases r (λ a. (lawful-code (node .code) ≡ true) × (a .code ≡ node .code)) (λ e. (lawful-code (node .code) ≡ false) × (e ≡ NodeRefusal.Fields i)) ⌝ }
