@@ -12,7 +12,7 @@ use Rattle.std.proofs.shelf.Tests.{cond-both, and-parts}
 use Rattle.std.proofs.shelf.Ways.{tells}
 use Rattle.std.specs.declared.option.Option.the-variants.{Some, None}
 use Rattle.designs.specs.Forms.{Form, Nil, below, lawful}
-use Rattle.designs.specs.Tables.{Fine, Sound, design, too-large}
+use Rattle.designs.specs.Tables.{Fine, Sound, design, whole, too-large}
 use Rattle.designs.specs.Nodes.{said, fault, form, forms-from, forms, countable, written}
 use Rattle.designs.specs.declared.node.Node.{Node}
 
@@ -57,3 +57,6 @@ push-from k (y ∷ xs) x n e = ap (λ fs. form k y ∷ fs) (push-from (k + 1) xs
 
 pub forms-more : (xs : List Node) (i : ℕ) (d : Node) → i < length xs → forms (take (i + 1) xs) ≡ forms (take i xs) ++ (form i (getD xs i d) ∷ [])
 forms-more xs i d h = ap forms (take-more xs i d h) ∙ push-from 0 (take i xs) (getD xs i d) i (omega (arith, length-take-le i xs (omega arith)))
+
+pub whole-forms : (xs : List Node) → whole (forms xs) ≡ written xs
+whole-forms xs = ap (λ n. cond (leb 1 n && leb n 256) (design (forms xs) (n - 1)) too-large) (length-forms 0 xs)

@@ -1,3 +1,0 @@
-// Written designs as systems: the transitions of every state are worked out once, from those of the nodes below.
-mod joining;
-mod placing;
