@@ -1,0 +1,5 @@
+// Files of two written designs.
+mod fields;
+mod layout;
+pub mod reader;
+pub mod refusal;
