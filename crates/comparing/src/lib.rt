@@ -1,0 +1,4 @@
+// From the bytes of a file to the answer whether its two designs are equal.
+pub mod answer;
+pub mod printing;
+mod zeros;
