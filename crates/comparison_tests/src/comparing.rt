@@ -81,8 +81,6 @@ fn an_early_choice_differs_in_round_2(rt: LibcRuntime) -> Result<(), Fail> {
     let left = Table::new(rt.alloc(), 3, &LATE)?;
     let right = Table::new(rt.alloc(), 4, &EARLY)?;
     let mut cells = [7; 14];
-    check(Open::<Standing>::begin(&left, &right, &mut cells[0..11]).is_err())?;
-    check_eq(cells[0], 7)?;
     let open = Open::<Standing>::begin(&left, &right, &mut cells)?;
     let done = settled(open, &left, &right, &mut cells)?;
     check_eq(done.sweeps(), 3)?;
@@ -101,6 +99,18 @@ fn an_early_choice_differs_in_round_2(rt: LibcRuntime) -> Result<(), Fail> {
     )?;
     check_eq(cells[12], 7)?;
     check_eq(cells[13], 7)
+}
+
+#[test]
+fn too_few_cells_are_refused(rt: LibcRuntime) -> Result<(), Fail> {
+    let left = Table::new(rt.alloc(), 3, &LATE)?;
+    let right = Table::new(rt.alloc(), 4, &EARLY)?;
+    let mut cells = [7; 11];
+    match Open::<Standing>::begin(&left, &right, &mut cells) {
+        Ok(_) => return Err(Fail::new("begun")),
+        Err(refusal) => check_eq(refusal.number(), 11)?,
+    }
+    check_eq(cells[0], 7)
 }
 
 #[test]
