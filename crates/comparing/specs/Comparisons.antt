@@ -40,15 +40,25 @@ Equal-pairs d e pairs =
     × (pairs ≡ passing test (d .sys .n * e .sys .n))
 
 -- As many sweeps are made as the refinement has rounds, and a pair that is not equal is struck in one.
-abbrev pub Judged : Design → Design → Answer → Type 0
-Judged d e (Equal sweeps zeros) = Equal-designs d e × Rounds (standing (d .sys)) (standing (e .sys)) sweeps × Equal-pairs d e zeros
-Judged d e (Different sweeps round) = (Equal-designs d e → ⊥) × Rounds (standing (d .sys)) (standing (e .sys)) sweeps × Struck-in (standing (d .sys)) (standing (e .sys)) round (d .start) (e .start)
-Judged d e (Refused f) = ⊥
+abbrev pub Judged-equal : Design → Design → ℕ → ℕ → Type 0
+Judged-equal d e sweeps zeros = Equal-designs d e × Rounds (standing (d .sys)) (standing (e .sys)) sweeps × Equal-pairs d e zeros
+
+abbrev pub Judged-different : Design → Design → ℕ → ℕ → Type 0
+Judged-different d e sweeps round = (Equal-designs d e → ⊥) × Rounds (standing (d .sys)) (standing (e .sys)) sweeps × Struck-in (standing (d .sys)) (standing (e .sys)) round (d .start) (e .start)
+
+-- What is answered of two designs that passed the check: there are cells for 16384 pairs.
+abbrev pub Settles : Design → Design → Answer → Type 0
+Settles d e (Equal sweeps zeros) = (d .sys .n * e .sys .n ≤ 16384) × Judged-equal d e sweeps zeros
+Settles d e (Different sweeps round) = (d .sys .n * e .sys .n ≤ 16384) × Judged-different d e sweeps round
+Settles d e (Refused (File f)) = ⊥
+Settles d e (Refused (First f)) = ⊥
+Settles d e (Refused (Second f)) = ⊥
+Settles d e (Refused FewCells) = 16384 < d .sys .n * e .sys .n
 
 -- Asked in this order: the file's questions, those of the first design, those of the second, and whether there are cells enough.
 abbrev pub Answered : List ℕ → Answer → Type 0
-Answered bytes (Equal sweeps zeros) = Comparable bytes × Judged (left bytes) (right bytes) (Equal sweeps zeros)
-Answered bytes (Different sweeps round) = Comparable bytes × Judged (left bytes) (right bytes) (Different sweeps round)
+Answered bytes (Equal sweeps zeros) = Comparable bytes × Judged-equal (left bytes) (right bytes) sweeps zeros
+Answered bytes (Different sweeps round) = Comparable bytes × Judged-different (left bytes) (right bytes) sweeps round
 Answered bytes (Refused (File f)) = file-fault bytes ≡ Some f
 Answered bytes (Refused (First f)) = (file-fault bytes ≡ None) × checks.Refused (first-nodes bytes) f
 Answered bytes (Refused (Second f)) = (file-fault bytes ≡ None) × Passed (first-nodes bytes) × checks.Refused (second-nodes bytes) f
