@@ -1,0 +1,10 @@
+pub mod Firsts
+pub mod Checks
+pub mod Members
+pub mod EqualTold
+pub mod DifferentTold
+pub mod Numbers
+pub mod EqualListings
+pub mod Entries
+pub mod DifferentListings
+pub mod Cells

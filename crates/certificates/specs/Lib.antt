@@ -1,0 +1,4 @@
+pub mod Faults
+pub mod EqualSheets
+pub mod Listings
+pub mod DifferentSheets
