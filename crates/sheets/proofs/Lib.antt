@@ -1,3 +1,4 @@
 pub mod Bitmaps
 pub mod PairSets
 pub mod Rows
+pub mod DifferentRows

@@ -45,7 +45,7 @@ module _ (M N : Lts) (ok : ℕ → ℕ → Bool) (i s t : ℕ) where
   open-right o e f = sym (ap (λ v. or-else v (first (move-fault (λ y x. ok x y) (M .moves s) i 1) 0 (N .moves t))) (numbered ok (M .moves s) (N .moves t) 0 None e) ∙ numbered (λ y x. ok x y) (N .moves t) (M .moves s) 1 o f)
 
 -- relations that agree on states
-answered-same : (n : ℕ) (ok ko : ℕ → ℕ → Bool) (m : Move) (ks : List Move) → All (Sound n) ks → ((y : ℕ) → y < n → ok (m .1) y ≡ ko (m .1) y) → answered ok ks m ≡ answered ko ks m
+pub answered-same : (n : ℕ) (ok ko : ℕ → ℕ → Bool) (m : Move) (ks : List Move) → All (Sound n) ks → ((y : ℕ) → y < n → ok (m .1) y ≡ ko (m .1) y) → answered ok ks m ≡ answered ko ks m
 answered-same n ok ko m [] a h = refl
 answered-same n ok ko m (k ∷ ks) a h =
     ap (λ v. (eqb (m .0) (k .0) && v) || answered ok ks m) (h (k .1) (a .0 .1))
