@@ -1,0 +1,5 @@
+// The writers of sheets of evidence: what a settled comparison has found, listed row by row. They allocate nothing, and their
+// answers are exact on any cells.
+pub mod equal;
+mod lower;
+pub mod refusal;
