@@ -1,2 +1,4 @@
 pub mod Fills
 pub mod Laws
+pub mod Entries
+pub mod Sequences

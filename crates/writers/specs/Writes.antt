@@ -1,9 +1,9 @@
 -- What the writers of sheets answer, and what they leave in the rows.
 use mathlib.Core.Path.{_≡_}
 use mathlib.Core.List.{List}
-use mathlib.Core.Bool.{Bool, true, false, cond}
+use mathlib.Core.Bool.{Bool, true, false, cond, _&&_, _||_}
 use Prim.Native.Nat.{ℕ, _+_, _*_, _<_, _≤_}
-use lib.Dec.{leb}
+use lib.Dec.{eqb, leb, ltb}
 use lib.ListN.{length, getD, take, drop}
 use Rattle.std.specs.declared.option.Option.{Option}
 use Rattle.std.specs.declared.option.Option.the-variants.{Some, None}
@@ -50,6 +50,17 @@ is-none (Some x) = false
 
 abbrev pub cell-of : List ℕ → ℕ → ℕ
 cell-of cells i = getD cells i 0
+
+-- struck in a round below v, and in round v
+abbrev pub lower : (ℕ → ℕ) → ℕ → ℕ → Bool
+lower cell v i = ltb 0 (cell i) && ltb (cell i) v
+
+abbrev pub in-round : (ℕ → ℕ) → ℕ → ℕ → Bool
+in-round cell v i = eqb (cell i) v
+
+-- the pair i belongs to the different sheet for the pair a
+abbrev pub named : (ℕ → ℕ) → ℕ → ℕ → Bool
+named cell a i = lower cell (cell a) i || eqb i a
 
 -- some pair of the sheet for the pair a has no move
 abbrev pub lacks-move : Lts → Lts → (ℕ → ℕ) → ℕ → Bool

@@ -34,7 +34,7 @@ fn cell_at(cells: &[u32], i: usize) -> u32
     if i < cells.len() { cells[i] } else { 0 }
 }
 
-fn is_lower(cells: &[u32], i: usize, below: u32) -> bool
+pub(crate) fn is_lower(cells: &[u32], i: usize, below: u32) -> bool
     ensures { λ r. ⌜ r ≡ (ltb 0 (getD (now (cells .entry)) i 0) && ltb (getD (now (cells .entry)) i 0) below) ⌝ }
 {
     let cell = cell_at(cells, i);
