@@ -92,7 +92,7 @@ fn is_stuck<Y: Layer, S: System, T: System>(mine: State<S>, other: State<T>, boa
 }
 
 // Some transition of either state that counts has no answer.
-pub fn is_unanswered<Y: Layer, S: System, T: System>(
+pub(crate) fn is_unanswered<Y: Layer, S: System, T: System>(
     left: State<S>,
     right: State<T>,
     cells: &[u32],
