@@ -56,8 +56,11 @@ pub record Accepted-different (M N : Lts) (rows : List DifferentRow) (s t : ℕ)
   pub asked : Last rows s t
 
 -- Some different sheet is accepted for two states exactly if they are not bisimilar.
+abbrev pub Different-decided : Lts → Lts → ℕ → ℕ → Type 0
+Different-decided M N s t = s < M .n → t < N .n → ((rows : List DifferentRow) × Accepted-different M N rows s t) ↔ (Bisimilar M N s t → ⊥)
+
 abbrev pub Different-sheets : Type 0
-Different-sheets = (M N : Lts) → Lawful M → Lawful N → (s t : ℕ) → s < M .n → t < N .n → ((rows : List DifferentRow) × Accepted-different M N rows s t) ↔ (Bisimilar M N s t → ⊥)
+Different-sheets = (M N : Lts) → Lawful M → Lawful N → (s t : ℕ) → Different-decided M N s t
 
 -- what is wrong with the row i; the side and the move that are reported are the row's own
 pub data Fails-different (M N : Lts) (rows : List DifferentRow) (i : ℕ) (f : SheetFault) : Type 0 where

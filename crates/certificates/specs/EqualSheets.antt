@@ -28,8 +28,11 @@ pub record Accepted-equal (M N : Lts) (rows : List EqualRow) (s t : ℕ) : Type 
   pub asked : Listed rows s t
 
 -- Some equal sheet is accepted for two states exactly if they are bisimilar.
+abbrev pub Equal-decided : Lts → Lts → ℕ → ℕ → Type 0
+Equal-decided M N s t = s < M .n → t < N .n → ((rows : List EqualRow) × Accepted-equal M N rows s t) ↔ Bisimilar M N s t
+
 abbrev pub Equal-sheets : Type 0
-Equal-sheets = (M N : Lts) → Lawful M → Lawful N → (s t : ℕ) → s < M .n → t < N .n → ((rows : List EqualRow) × Accepted-equal M N rows s t) ↔ Bisimilar M N s t
+Equal-sheets = (M N : Lts) → Lawful M → Lawful N → (s t : ℕ) → Equal-decided M N s t
 
 -- What is asked of the row i: do its states exist, and is each transition answered within the rows?
 abbrev pub row-at : List EqualRow → ℕ → EqualRow

@@ -8,7 +8,7 @@ ghost use Rattle.theory.specs.Layers.{shown};
 ghost use Rattle.theory.specs.Faults.{first-fault as firstFault};
 ghost use Rattle.actions.specs.Transitions.{Kth};
 ghost use Rattle.certificates.specs.declared.fault.SheetFault.{SheetFault as Fault};
-ghost use Rattle.certificates.specs.DifferentSheets.{earlier, named-fault, side-fault, different-row-fault, last-is, different-fault, Accepted-different as AcceptedDifferent, Refused-different as RefusedDifferent};
+ghost use Rattle.certificates.specs.DifferentSheets.{earlier, named-fault, side-fault, different-row-fault, last-is, different-fault, Accepted-different as AcceptedDifferent, Refused-different as RefusedDifferent, Different-decided as DifferentDecided};
 use super::count::is_counted;
 use super::pair_set::PairSet;
 use super::pair_set::PairSetHeld;
@@ -144,6 +144,7 @@ fn find_fault<Y: Layer, S: System, T: System>(
 
 // Whether the rows are a different sheet for the states s and t under the layer Y. The refusal is that of the first question
 // that fails.
+// Some rows pass exactly if the states are different.
 pub fn check_different<Y: Layer, S: System, T: System>(
     left: &S,
     right: &T,
@@ -153,6 +154,7 @@ pub fn check_different<Y: Layer, S: System, T: System>(
 ) -> Result<(), SheetFault>
     ensures accepted { λ r. ⌜ (r ≡ Ok tt) ↔ AcceptedDifferent (shown (Y·Layer .rule) (S·System .meaning (now (left .entry)))) (shown (Y·Layer .rule) (T·System .meaning (now (right .entry)))) (now (rows .entry)) s t ⌝ }
     ensures refused { λ r. ⌜ ((f : Fault) → (r ≡ Err f) ↔ RefusedDifferent (shown (Y·Layer .rule) (S·System .meaning (now (left .entry)))) (shown (Y·Layer .rule) (T·System .meaning (now (right .entry)))) (now (rows .entry)) s t f) ⌝ }
+    ensures decides { λ _. ⌜ DifferentDecided (shown (Y·Layer .rule) (S·System .meaning (now (left .entry)))) (shown (Y·Layer .rule) (T·System .meaning (now (right .entry)))) s t ⌝ }
 {
     match find_fault::<Y, S, T>(left, right, rows, s, t) {
         Some(fault) => Err(fault),

@@ -8,7 +8,7 @@ ghost use Rattle.std.specs.declared.result.Result.the-variants.{Ok, Err};
 ghost use Rattle.theory.specs.Layers.{shown};
 ghost use Rattle.theory.specs.Faults.{first-fault as firstFault, passed};
 ghost use Rattle.certificates.specs.declared.fault.SheetFault.{SheetFault as Fault};
-ghost use Rattle.certificates.specs.EqualSheets.{listed, answer-fault, equal-row-fault, equal-fault, Accepted-equal as AcceptedEqual, Refused-equal as RefusedEqual};
+ghost use Rattle.certificates.specs.EqualSheets.{listed, answer-fault, equal-row-fault, equal-fault, Accepted-equal as AcceptedEqual, Refused-equal as RefusedEqual, Equal-decided as EqualDecided};
 ghost use Rattle.sheets.specs.Bitmaps.{within, pair-bit};
 use super::count::is_counted;
 use super::pair_set::PairSet;
@@ -137,6 +137,7 @@ fn find_fault<Y: Layer, S: System, T: System>(
 
 // Whether the rows are an equal sheet for the states s and t under the layer Y: they are a bisimulation of what counts, and
 // the pair is among them. The refusal is that of the first question that fails.
+// Some rows pass exactly if the states are equal.
 pub fn check_equal<Y: Layer, S: System, T: System>(
     left: &S,
     right: &T,
@@ -146,6 +147,7 @@ pub fn check_equal<Y: Layer, S: System, T: System>(
 ) -> Result<(), SheetFault>
     ensures accepted { λ r. ⌜ (r ≡ Ok tt) ↔ AcceptedEqual (shown (Y·Layer .rule) (S·System .meaning (now (left .entry)))) (shown (Y·Layer .rule) (T·System .meaning (now (right .entry)))) (now (rows .entry)) s t ⌝ }
     ensures refused { λ r. ⌜ ((f : Fault) → (r ≡ Err f) ↔ RefusedEqual (shown (Y·Layer .rule) (S·System .meaning (now (left .entry)))) (shown (Y·Layer .rule) (T·System .meaning (now (right .entry)))) (now (rows .entry)) s t f) ⌝ }
+    ensures decides { λ _. ⌜ EqualDecided (shown (Y·Layer .rule) (S·System .meaning (now (left .entry)))) (shown (Y·Layer .rule) (T·System .meaning (now (right .entry)))) s t ⌝ }
 {
     match find_fault::<Y, S, T>(left, right, rows, s, t) {
         Some(fault) => Err(fault),

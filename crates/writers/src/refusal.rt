@@ -20,3 +20,5 @@ pub impl From<Refusal> for WriteRefusal as WriteRefusalFromRefusal {
         WriteRefusal::Comparison(e)
     }
 }
+
+mod numbers;
