@@ -28,7 +28,7 @@ use Rattle.book.specs.declared.socket.Socket.{Socket}
 use Rattle.book.specs.declared.socket.Socket.the-variants.{Empty, Filled}
 use Rattle.book.specs.declared.fault.BookFault.{BookFault}
 use Rattle.book.specs.declared.fault.BookFault.the-variants.{NoSocket, NoState}
-use Rattle.book.specs.Plain.{Plain, blank, socket-number, at, with-socket, unless, empty-fault, enter-fault, filled, entered, free-fault, propose-fault, opened, with-proposed, numbered, change-in, current-in, first-in, Accepts, marked, with-proof, Proves, not-open, accepted, not-accepted, settled, ended, closing, closed, Call, enter, propose, prove, close, Step, Run}
+use Rattle.book.specs.Plain.{Plain, blank, socket-number, at, with-socket, unless, empty-fault, enter-fault, filled, entered, free-fault, propose-fault, opened, with-proposed, numbered, change-in, current-in, first-in, Accepts, marked, with-proof, Proves, not-open, accepted, not-accepted, with-part, ended, closing, closed, Call, enter, propose, prove, close, Step, Run}
 use Rattle.book.specs.Promises.{is-filled, Keeps-designs, Runs-keep-designs, current-part, first-part}
 
 module _ (M : Lts) where
@@ -108,19 +108,19 @@ module _ (M : Lts) where
         go true e = e
         go false e = absurd (let z : _≡_ {A = ℕ} 0 1 = cc in omega arith)
 
-    settled-kept : (x : Socket) (k : ℕ) (c : Change) → change-in x k ≡ Some c → c .proved ≡ true → Kept x → Kept (settled x (c .state))
-    settled-kept Empty k c e p h = tt
-    settled-kept (Filled x) k c e p h =
+    taken-kept : (x : Socket) (k : ℕ) (c : Change) → change-in x k ≡ Some c → c .proved ≡ true → Kept x → Kept (with-part x (c .state))
+    taken-kept Empty k c e p h = tt
+    taken-kept (Filled x) k c e p h =
         let change : Kept-change (x .current) (Some c) = subst (Kept-change (x .current)) (numbered-is (x .change) k c e) (h .3) in
         (h .0, change .0, transitive standing-layer M M M (lawful-in-range M law) (x .first) (x .current) (c .state) (h .1) (h .2) (change .1 p), tt)
 
-    dropped-kept : (x : Socket) → Kept x → Kept (settled x (current-in x))
+    dropped-kept : (x : Socket) → Kept x → Kept (with-part x (current-in x))
     dropped-kept Empty h = tt
     dropped-kept (Filled x) h = (h .0, h .1, h .2, tt)
 
     ended-keeps : (b : Plain) (i k : ℕ) (c : Change) → change-in (at b i) k ≡ Some c → All-kept b → (t : Bool) → c .proved ≡ t → All-kept (ended b i c t)
-    ended-keeps b i k c e h true p = written (b .sockets) i (settled (at b i) (c .state)) h (settled-kept (at b i) k c e p (kept-at b i h))
-    ended-keeps b i k c e h false p = written (b .sockets) i (settled (at b i) (current-in (at b i))) h (dropped-kept (at b i) (kept-at b i h))
+    ended-keeps b i k c e h true p = written (b .sockets) i (with-part (at b i) (c .state)) h (taken-kept (at b i) k c e p (kept-at b i h))
+    ended-keeps b i k c e h false p = written (b .sockets) i (with-part (at b i) (current-in (at b i))) h (dropped-kept (at b i) (kept-at b i h))
 
     close-keeps : (b : Plain) (i k : ℕ) → All-kept b → All-kept (closed b i k)
     close-keeps b i k h = go (change-in (at b i) k) refl

@@ -15,7 +15,7 @@ use Rattle.book.specs.declared.socket.Socket.{Socket}
 use Rattle.book.specs.declared.socket.Socket.the-variants.{Empty, Filled}
 use Rattle.book.specs.declared.book.pending.Pending.{Pending}
 use Rattle.book.specs.Counts.{open-in, open-changes}
-use Rattle.book.specs.Plain.{Plain, socket-number, socket-in, at, with-socket, numbered, change-in, current-in, marked, with-proof, settled, ended, closed, closing}
+use Rattle.book.specs.Plain.{Plain, socket-number, socket-in, at, with-socket, numbered, change-in, current-in, marked, with-proof, with-part, ended, closed, closing}
 use Rattle.book.specs.Openings.{Found-open}
 use Rattle.book.proofs.Counting.{written, counted}
 

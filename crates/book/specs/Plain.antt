@@ -120,13 +120,14 @@ pub data Proves (M : Lts) (b : Plain) (i k : ℕ) (rows : List EqualRow) (after 
 
 -- Close: ends the slip's change if it is open. If it is proved, the state proposed becomes the current part and one more was
 -- taken, and if not, one more was dropped.
-abbrev pub settled : Socket → ℕ → Socket
-settled Empty s = Empty
-settled (Filled h) s = Filled (record { first = h .first; current = s; change = None })
+-- the socket with another current part, and no open change
+abbrev pub with-part : Socket → ℕ → Socket
+with-part Empty s = Empty
+with-part (Filled h) s = Filled (record { first = h .first; current = s; change = None })
 
 abbrev pub ended : Plain → ℕ → Change → Bool → Plain
-ended b i c true = record { sockets = with-socket (b .sockets) i (settled (at b i) (c .state)); proposed = b .proposed; taken = b .taken + 1; dropped = b .dropped }
-ended b i c false = record { sockets = with-socket (b .sockets) i (settled (at b i) (current-in (at b i))); proposed = b .proposed; taken = b .taken; dropped = b .dropped + 1 }
+ended b i c true = record { sockets = with-socket (b .sockets) i (with-part (at b i) (c .state)); proposed = b .proposed; taken = b .taken + 1; dropped = b .dropped }
+ended b i c false = record { sockets = with-socket (b .sockets) i (with-part (at b i) (current-in (at b i))); proposed = b .proposed; taken = b .taken; dropped = b .dropped + 1 }
 
 abbrev pub closing : Plain → ℕ → Option Change → Plain
 closing b i None = b
