@@ -1,13 +1,12 @@
 -- What each call does to the run that led to it.
 use mathlib.Core.Path.{_≡_, refl, sym, ap, subst, _∙_}
-use mathlib.Core.Logic.{_⊎_, inl, inr}
 use mathlib.Core.List.{List}
 use mathlib.Core.Bool.{Bool, true, false, cond, _&&_}
 use Prim.Native.Nat.{ℕ, _+_, _*_, _<_, _≤_}
 use native.Mathlib.Omega.{arith}
 use lib.Dec.{eqb, leb, ltb}
 use lib.ListN.{length, getD}
-use Rattle.std.proofs.shelf.Tests.{cases-bool, and-from, and-parts, eq-eqb, le-leb, leb-true, lt-ltb, le-ltb, ltb-true, cond-true}
+use Rattle.std.proofs.shelf.Tests.{and-from, and-parts, eq-eqb, le-leb, lt-ltb, le-ltb, ltb-true, cond-true}
 use Rattle.std.specs.declared.option.Option.{Option}
 use Rattle.std.specs.declared.option.Option.the-variants.{Some, None}
 use Rattle.std.specs.declared.result.Result.{Result}
@@ -15,11 +14,11 @@ use Rattle.std.specs.declared.result.Result.the-variants.{Ok, Err}
 use Rattle.theory.specs.Systems.{Lts, Lawful}
 use Rattle.theory.specs.Layers.{Layering, shown}
 use Rattle.refinement.specs.Cells.{next-cell}
-use Rattle.refinement.specs.Rounds.{In-range, Rounds}
-use Rattle.refinement.specs.Runs.{pairs, Begun-cells, Swept-cells, writes, Run, begun, swept, Settled-by-run, Verdict-law}
+use Rattle.refinement.specs.Rounds.{Rounds}
+use Rattle.refinement.specs.Runs.{pairs, Swept-cells, writes, Run, begun, swept, Settled-by-run, Verdict-law}
 use Rattle.refinement.proofs.Runs.{run-few, runs-exact}
 use Rattle.refinement.proofs.Ranges.{shown-in-range}
-use Rattle.comparison.specs.Comparisons.{begin-fault, sweep-fault, verdict-fault, cell-after, begun-cell, swept-cell, Begun, Advanced, Swept, judged, verdict-answer}
+use Rattle.comparison.specs.Comparisons.{begin-fault, sweep-fault, cell-after, swept-cell, Advanced, Swept, judged, verdict-answer}
 use Rattle.comparison.specs.declared.comparison.Open.{Open}
 use Rattle.comparison.specs.declared.comparison.Settled.{Settled}
 use Rattle.comparison.specs.declared.comparison.Step.{Step}
@@ -28,7 +27,7 @@ use Rattle.comparison.specs.declared.comparison.Refusal.{Refusal}
 use Rattle.comparison.specs.declared.comparison.Refusal.the-variants.{Outsize, FewCells, OtherSizes, TooManySweeps, NoSuchState}
 use Rattle.comparison.specs.declared.comparison.Verdict.{Verdict}
 use Rattle.comparison.specs.declared.comparison.Verdict.the-variants.{Equal, Different}
-use Rattle.verdicts.specs.Decisions.{decide-fault, True-of, Past, Final, Left-by, Judged-cells, OpenByRun, Decided-cells}
+use Rattle.verdicts.specs.Decisions.{decide-fault, True-of, Past, Final, Begins-run}
 
 -- A call that is to make the cells of the pairs new leaves those past them, whatever it answers.
 past-after : (fault : Option Refusal) (size i new old : ℕ) → size ≤ i → cell-after fault (ltb i size) new old ≡ old
@@ -37,6 +36,10 @@ past-after (Some f) size i new old l = refl
 
 inside-after : (fault : Option Refusal) (size i new old : ℕ) → fault ≡ None → i < size → cell-after fault (ltb i size) new old ≡ new
 inside-after fault size i new old e l = ap (λ f. cell-after f (ltb i size) new old) e ∙ cond-true (ltb i size) new old (lt-ltb i size l)
+
+-- The open comparison and the cells come from a run on M and N.
+abbrev pub Open-by-run : {Y : Type 0} → Lts → Lts → Open Y → List ℕ → Type 0
+Open-by-run M N o cells = (o .n1 ≡ M .n) × (o .n2 ≡ N .n) × (pairs M N ≤ length cells) × Run M N true (o .made) cells
 
 -- begin
 begin-none : (n1 n2 len : ℕ) → begin-fault n1 n2 len ≡ None → (ltb 0 n1 && ltb 0 n2 ≡ true) × (leb (n1 * n2) len ≡ true)
@@ -47,17 +50,8 @@ begin-none n1 n2 len = go (ltb 0 n1 && ltb 0 n2) (leb (n1 * n2) len)
     go true false h = let z : ⊥ = grind arith in elim z [ ]
     go false b h = let z : ⊥ = grind arith in elim z [ ]
 
-module _ (M N : Lts) (old new : List ℕ) (cells : (i : ℕ) → getD new i 0 ≡ begun-cell (M .n) (N .n) old i) where
-  pub begun-past : Past (M .n * N .n) old new
-  begun-past i l = cells i ∙ past-after (begin-fault (M .n) (N .n) (length old)) (M .n * N .n) i 0 (getD old i 0) l
-
-  pub run-begins : {Y : Type 0} (o : Open Y) → Begun (M .n) (N .n) (length old) (Ok o) → length new ≡ length old → OpenByRun M N o new
-  run-begins o h len =
-      let room = leb-true (M .n * N .n) (length old) (begin-none (M .n) (N .n) (length old) (h .0) .1) in
-      (h .1, h .2, omega (arith, room, len), subst (λ r. Run M N true r new) (sym (h .3)) (begun zeros))
-    where
-      zeros : Begun-cells M N new
-      zeros i l = cells i ∙ inside-after (begin-fault (M .n) (N .n) (length old)) (M .n * N .n) i 0 (getD old i 0) (h .0) l
+pub run-begins : {Y : Type 0} (M N : Lts) (o : Open Y) (cells : List ℕ) → Begins-run M N o cells → Open-by-run M N o cells
+run-begins M N o cells h = (h .0, h .1, h .3, subst (λ r. Run M N true r cells) (sym (h .2)) (begun (h .4)))
 
 -- sweep
 module _ {Y : Type 0} (y : Layering) (A B : Lts) (lawful-left : Lawful A) (lawful-right : Lawful B) (o : Open Y) (cells new : List ℕ)
@@ -65,7 +59,7 @@ module _ {Y : Type 0} (y : Layering) (A B : Lts) (lawful-left : Lawful A) (lawfu
   pub swept-past : Past (A .n * B .n) cells new
   swept-past i l = left i ∙ past-after (sweep-fault o (A .n) (B .n) (length cells)) (A .n * B .n) i (next-cell (shown y A) (shown y B) cells (o .made + 1) i) (getD cells i 0) l
 
-  module _ (h : OpenByRun (shown y A) (shown y B) o cells) where
+  module _ (h : Open-by-run (shown y A) (shown y B) o cells) where
     none : sweep-fault o (A .n) (B .n) (length cells) ≡ None
     none =
         cond-true (eqb (o .n1) (A .n) && eqb (o .n2) (B .n)) (cond (leb (A .n * B .n) (length cells)) (cond (leb (o .made) (A .n * B .n)) None (Some TooManySweeps)) (Some FewCells)) (Some OtherSizes)
@@ -83,7 +77,7 @@ module _ {Y : Type 0} (y : Layering) (A B : Lts) (lawful-left : Lawful A) (lawfu
     pub never-refused : (q : Refusal × Open Y) → Swept (shown y A) (shown y B) o cells (Err q) → ⊥
     never-refused q a = let k = sym none ∙ a .0 in grind arith
 
-    pub run-again : (next : Open Y) (step : Step Y) → Swept (shown y A) (shown y B) o cells (Ok step) → step ≡ Again next → length new ≡ length cells → OpenByRun (shown y A) (shown y B) next new
+    pub run-again : (next : Open Y) (step : Step Y) → Swept (shown y A) (shown y B) o cells (Ok step) → step ≡ Again next → length new ≡ length cells → Open-by-run (shown y A) (shown y B) next new
     run-again next step a e len =
         let d : Advanced o (writes (shown y A) (shown y B) (o .made + 1) cells) (Again next) = subst (Advanced o (writes (shown y A) (shown y B) (o .made + 1) cells)) e (a .1) in
         (d .1 ∙ h .0, d .2 ∙ h .1, omega (arith, h .2, len), run-on (next .made) true (d .3) (d .0))
@@ -94,9 +88,8 @@ module _ {Y : Type 0} (y : Layering) (A B : Lts) (lawful-left : Lawful A) (lawfu
         (d .1 ∙ h .0, d .2 ∙ h .1, omega (arith, h .2, len), run-on (next .made) false (d .3) (d .0))
 
 -- The cells in the end.
-pub final-cells : (y : Layering) (A B : Lts) → Lawful A → Lawful B → (made : ℕ) (old new : List ℕ) → begin-fault (A .n) (B .n) (length old) ≡ None → Run (shown y A) (shown y B) false made new → Past (A .n * B .n) old new → Judged-cells y A B old new
-final-cells y A B lawful-left lawful-right made old new none run past =
-    subst (λ f. Left-by f y A B old new) (sym none) (runs-exact (shown y A) (shown y B) (shown-in-range y A lawful-left) (shown-in-range y B lawful-right) made new run, past)
+pub final-cells : (y : Layering) (A B : Lts) → Lawful A → Lawful B → (made : ℕ) (cells : List ℕ) → Run (shown y A) (shown y B) false made cells → Final y A B cells
+final-cells y A B lawful-left lawful-right made cells run = runs-exact (shown y A) (shown y B) (shown-in-range y A lawful-left) (shown-in-range y B lawful-right) made cells run
 
 -- verdict
 module _ {Y : Type 0} (y : Layering) (A B : Lts) (o : Settled Y) (cells : List ℕ) (h : Settled-by-run (shown y A) (shown y B) (o .n1) (o .n2) (o .made) cells) (s t len : ℕ) (none : begin-fault (A .n) (B .n) len ≡ None) where
@@ -117,13 +110,6 @@ module _ {Y : Type 0} (y : Layering) (A B : Lts) (o : Settled Y) (cells : List �
       (cond-true (eqb (o .n1) (A .n) && eqb (o .n2) (B .n)) (cond (leb (A .n * B .n) (length cells)) (cond (ltb s (A .n) && ltb t (B .n)) None (Some NoSuchState)) (Some FewCells)) (Some OtherSizes)
       (and-from (eqb (o .n1) (A .n)) (eqb (o .n2) (B .n)) (eq-eqb (o .n1) (A .n) (h .0)) (eq-eqb (o .n2) (B .n) (h .1)))
       ∙ cond-true (leb (A .n * B .n) (length cells)) (cond (ltb s (A .n) && ltb t (B .n)) None (Some NoSuchState)) (Some FewCells) (le-leb (A .n * B .n) (length cells) (h .2)))
-
-  pub verdict-refused : (f : Refusal) → _≡_ {A = Result Verdict Refusal} (Err f) (verdict-answer o (A .n) (B .n) cells s t) → decide-fault (A .n) (B .n) len s t ≡ Some f
-  verdict-refused f e = fault-is ∙ go exist (e ∙ answer-is)
-    where
-      go : (b : Bool) → _≡_ {A = Result Verdict Refusal} (Err f) (judged (own b) (getD cells (s * B .n + t) 0)) → own b ≡ Some f
-      go true k = let z : ⊥ = grind arith in elim z [ ]
-      go false k = grind arith
 
   pub verdict-given : (a : Verdict) → _≡_ {A = Result Verdict Refusal} (Ok a) (verdict-answer o (A .n) (B .n) cells s t)
       → Verdict-law {X = Result Verdict Refusal} (Ok Equal) (λ v. Ok (Different v)) (shown y A) (shown y B) (o .n1) (o .n2) (o .made) cells s t (Ok a)
@@ -146,16 +132,3 @@ module _ {Y : Type 0} (y : Layering) (A B : Lts) (o : Settled Y) (cells : List �
         where
           inside : (u v : Verdict) → _≡_ {A = Result Verdict Refusal} (Ok u) (Ok v) → u ≡ v
           inside u v k = grind arith
-
--- The questions of begin are among those of the whole.
-begin-passes : (n1 n2 len s t : ℕ) → decide-fault n1 n2 len s t ≡ None → begin-fault n1 n2 len ≡ None
-begin-passes n1 n2 len s t = go (ltb 0 n1 && ltb 0 n2) (leb (n1 * n2) len) (cond (ltb s n1 && ltb t n2) None (Some NoSuchState))
-  where
-    go : (a b : Bool) (own : Option Refusal) → cond a (cond b own (Some FewCells)) (Some Outsize) ≡ None → cond a (cond b None (Some FewCells)) (Some Outsize) ≡ None
-    go true true own h = refl
-    go true false own h = h
-    go false b own h = h
-
-pub judged-decided : (y : Layering) (A B : Lts) (old : List ℕ) (s t : ℕ) (new : List ℕ) → None ≡ decide-fault (A .n) (B .n) (length old) s t → Judged-cells y A B old new → Decided-cells y A B old s t new
-judged-decided y A B old s t new none h =
-    subst (λ f. Left-by f y A B old new) none (subst (λ f. Left-by f y A B old new) (begin-passes (A .n) (B .n) (length old) s t (sym none)) h)

@@ -2,7 +2,7 @@
 use mathlib.Core.Path.{_≡_}
 use mathlib.Core.Logic.{_↔_}
 use mathlib.Core.List.{List}
-use mathlib.Core.Bool.{true, cond, _&&_}
+use mathlib.Core.Bool.{cond, _&&_}
 use Prim.Native.Nat.{ℕ, suc, _+_, _*_, _<_, _≤_}
 use lib.Dec.{leb, ltb}
 use lib.ListN.{length, getD}
@@ -14,7 +14,7 @@ use Rattle.theory.specs.Systems.{Lts}
 use Rattle.theory.specs.Layers.{Layering, shown}
 use Rattle.theory.specs.Bisimulations.{Equal-under}
 use Rattle.refinement.specs.Rounds.{Struck-in, Rounds}
-use Rattle.refinement.specs.Runs.{pairs, Run, Settled-by-run}
+use Rattle.refinement.specs.Runs.{pairs, Begun-cells, Settled-by-run}
 use Rattle.comparison.specs.Comparisons.{begin-fault}
 use Rattle.comparison.specs.declared.comparison.Open.{Open}
 use Rattle.comparison.specs.declared.comparison.Settled.{Settled}
@@ -54,14 +54,18 @@ Left-by None y A B old new = Final y A B new × Past (A .n * B .n) old new
 abbrev pub Decided-cells : Layering → Lts → Lts → List ℕ → ℕ → ℕ → List ℕ → Type 0
 Decided-cells y A B old s t new = Left-by (decide-fault (A .n) (B .n) (length old) s t) y A B old new
 
--- The same without the question for the states.
-abbrev pub Judged-cells : Layering → Lts → Lts → List ℕ → List ℕ → Type 0
-Judged-cells y A B old new = Left-by (begin-fault (A .n) (B .n) (length old)) y A B old new
+-- A comparison that has just begun on M and N, with the cells.
+abbrev pub Begins-run : {Y : Type 0} → Lts → Lts → Open Y → List ℕ → Type 0
+Begins-run M N o cells = (o .n1 ≡ M .n) × (o .n2 ≡ N .n) × (o .made ≡ 0) × (pairs M N ≤ length cells) × Begun-cells M N cells
 
--- The comparison and the cells come from a run on M and N: one that is open, and one that is settled.
-abbrev pub OpenByRun : {Y : Type 0} → Lts → Lts → Open Y → List ℕ → Type 0
-OpenByRun M N o cells = (o .n1 ≡ M .n) × (o .n2 ≡ N .n) × (pairs M N ≤ length cells) × Run M N true (o .made) cells
+-- A settled comparison and the cells come from a run on M and N.
+abbrev pub Ends-run : {Y : Type 0} → Lts → Lts → Settled Y → List ℕ → Type 0
+Ends-run M N o cells = Settled-by-run M N (o .n1) (o .n2) (o .made) cells
 
-abbrev pub SettledByRun : {Y : Type 0} → Lts → Lts → Result (Settled Y) Refusal → List ℕ → Type 0
-SettledByRun M N (Ok o) cells = Settled-by-run M N (o .n1) (o .n2) (o .made) cells
-SettledByRun M N (Err f) cells = ⊥
+abbrev pub Settles : {Y : Type 0} → Lts → Lts → Result (Settled Y) Refusal → List ℕ → Type 0
+Settles M N (Ok o) cells = Ends-run M N o cells
+Settles M N (Err f) cells = ⊥
+
+-- The answer, once begin has passed.
+abbrev pub Judged : Layering → Lts → Lts → ℕ → ℕ → Result Decision Refusal → Type 0
+Judged y A B s t r = (len : ℕ) → begin-fault (A .n) (B .n) len ≡ None → Decided y A B len s t r

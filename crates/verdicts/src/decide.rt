@@ -1,8 +1,9 @@
 ghost use mathlib.Core.Path.{_≡_};
-ghost use Prim.Native.Nat.{_+_, _*_, _≤_};
+ghost use Prim.Native.Nat.{_*_};
 ghost use lib.ListN.{length};
+ghost use Rattle.std.specs.declared.option.Option.the-variants.{None};
 ghost use Rattle.theory.specs.Layers.{shown};
-ghost use Rattle.verdicts.specs.Decisions.{decide-fault, Past, OpenByRun, SettledByRun, Decided, Judged-cells, Decided-cells};
+ghost use Rattle.verdicts.specs.Decisions.{decide-fault, Decided, Decided-cells, Final, Past, Begins-run, Settles, Ends-run, Judged};
 use comparison::comparison::Open;
 use comparison::comparison::Refusal;
 use comparison::comparison::Settled;
@@ -20,6 +21,17 @@ pub struct Decision {
     pub sweeps: u32,
 }
 
+impl Decision {
+    fn of<Y: Layer>(settled: &Settled<Y>, verdict: Verdict) -> Decision
+        ensures { λ r. ⌜ (r .verdict ≡ verdict) × (r .sweeps ≡ now (settled .entry) .made) ⌝ }
+    {
+        Decision {
+            verdict,
+            sweeps: settled.sweeps(),
+        }
+    }
+}
+
 // Sweeps until the comparison is settled. No sweep of a run is refused, so this is not either.
 fn settle<Y: Layer, S: System, T: System>(
     mut current: Open<Y>,
@@ -27,8 +39,9 @@ fn settle<Y: Layer, S: System, T: System>(
     right: &T,
     cells: &mut [u32],
 ) -> Result<Settled<Y>, Refusal>
-    requires { ⌜ OpenByRun (shown (Y·Layer .rule) (S·System .meaning (now left))) (shown (Y·Layer .rule) (T·System .meaning (now right))) current (now cells) ⌝ }
-    ensures settled { λ r. ⌜ SettledByRun (shown (Y·Layer .rule) (S·System .meaning (now (left .entry)))) (shown (Y·Layer .rule) (T·System .meaning (now (right .entry)))) r (now (cells .exit)) ⌝ }
+    requires { ⌜ Begins-run (shown (Y·Layer .rule) (S·System .meaning (now left))) (shown (Y·Layer .rule) (T·System .meaning (now right))) current (now cells) ⌝ }
+    ensures settled { λ r. ⌜ Settles (shown (Y·Layer .rule) (S·System .meaning (now (left .entry)))) (shown (Y·Layer .rule) (T·System .meaning (now (right .entry)))) r (now (cells .exit)) ⌝ }
+    ensures cells { λ _. ⌜ Final (Y·Layer .rule) (S·System .meaning (now (left .entry))) (T·System .meaning (now (right .entry))) (now (cells .exit)) ⌝ }
     ensures past { λ _. ⌜ Past (S·System .meaning (now (left .entry)) .n * T·System .meaning (now (right .entry)) .n) (now (cells .entry)) (now (cells .exit)) ⌝ }
 {
     loop {
@@ -40,6 +53,40 @@ fn settle<Y: Layer, S: System, T: System>(
             Err(refused) => return Err(refused.0),
         }
     }
+}
+
+// The answer of a settled comparison.
+fn conclude<Y: Layer, S: System, T: System>(
+    settled: &Settled<Y>,
+    left: &S,
+    right: &T,
+    s: usize,
+    t: usize,
+    cells: &[u32],
+) -> Result<Decision, Refusal>
+    requires { ⌜ Ends-run (shown (Y·Layer .rule) (S·System .meaning (now left))) (shown (Y·Layer .rule) (T·System .meaning (now right))) (now settled) (now cells) ⌝ }
+    ensures { λ r. ⌜ Judged (Y·Layer .rule) (S·System .meaning (now (left .entry))) (T·System .meaning (now (right .entry))) s t r ⌝ }
+{
+    let verdict = settled.verdict(left, right, cells, s, t)?;
+    Ok(Decision::of(settled, verdict))
+}
+
+// From begin to the answer, where nothing is to be refused.
+fn judge<Y: Layer, S: System, T: System>(
+    left: &S,
+    right: &T,
+    s: usize,
+    t: usize,
+    cells: &mut [u32],
+) -> Result<Decision, Refusal>
+    requires { ⌜ decide-fault (S·System .meaning (now left) .n) (T·System .meaning (now right) .n) (length (now cells)) s t ≡ None ⌝ }
+    ensures answer { λ r. ⌜ Decided (Y·Layer .rule) (S·System .meaning (now (left .entry))) (T·System .meaning (now (right .entry))) (length (now (cells .entry))) s t r ⌝ }
+    ensures cells { λ _. ⌜ Final (Y·Layer .rule) (S·System .meaning (now (left .entry))) (T·System .meaning (now (right .entry))) (now (cells .exit)) ⌝ }
+    ensures past { λ _. ⌜ Past (S·System .meaning (now (left .entry)) .n * T·System .meaning (now (right .entry)) .n) (now (cells .entry)) (now (cells .exit)) ⌝ }
+{
+    let begun = Open::<Y>::begin(left, right, cells)?;
+    let settled = settle(begun, left, right, cells)?;
+    conclude(&settled, left, right, s, t, cells)
 }
 
 fn refuses<S: System, T: System>(
@@ -62,26 +109,6 @@ fn refuses<S: System, T: System>(
     } else {
         None
     }
-}
-
-// From begin to the verdict.
-fn judge<Y: Layer, S: System, T: System>(
-    left: &S,
-    right: &T,
-    s: usize,
-    t: usize,
-    cells: &mut [u32],
-) -> Result<Decision, Refusal>
-    ensures answer { λ r. ⌜ Decided (Y·Layer .rule) (S·System .meaning (now (left .entry))) (T·System .meaning (now (right .entry))) (length (now (cells .entry))) s t r ⌝ }
-    ensures cells { λ _. ⌜ Judged-cells (Y·Layer .rule) (S·System .meaning (now (left .entry))) (T·System .meaning (now (right .entry))) (now (cells .entry)) (now (cells .exit)) ⌝ }
-{
-    let begun = Open::<Y>::begin(left, right, cells)?;
-    let settled = settle(begun, left, right, cells)?;
-    let verdict = settled.verdict(left, right, cells, s, t)?;
-    Ok(Decision {
-        verdict,
-        sweeps: settled.sweeps(),
-    })
 }
 
 // Compares the systems under the layer Y, and says whether the states s of the left one and t of the right one are equal.
