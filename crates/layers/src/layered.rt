@@ -3,8 +3,37 @@ ghost use Rattle.theory.specs.Layers.{shown};
 ghost use Rattle.theory.proofs.Laws.{shown-lawful};
 use super::layer::Layer;
 use actions::action::Action;
+use filters::kept::Keeps;
+use filters::kept::count_kept;
+use filters::kept::nth_kept;
 use std::marker::PhantomData;
 use systems::system::System;
+
+// Passes what the layer Y keeps in a state of this calm.
+#[derive(Drop)]
+struct Shown<Y> {
+    calm: bool,
+    layer: PhantomData<Y>,
+}
+
+impl<Y> Shown<Y> {
+    fn of(calm: bool) -> Shown<Y>
+        ensures { λ r. ⌜ r .calm ≡ calm ⌝ }
+    {
+        Shown {
+            calm,
+            layer: PhantomData,
+        }
+    }
+}
+
+impl<Y: Layer> Keeps for Shown<Y> as ShownKeeps {
+    ghost passes = { λ x a. Y·Layer .rule .keeps (x .calm) a };
+
+    fn keeps(&self, a: Action) -> bool {
+        Y::keeps(self.calm, a)
+    }
+}
 
 // A system that shows only the transitions that count under the layer Y.
 #[derive(Drop)]
@@ -38,31 +67,12 @@ pub impl<Y: Layer, S: System> System for Layered<Y, S> as LayeredSystem {
     }
 
     fn count(&self, s: usize) -> usize {
-        let calm = Y::is_calm(&self.below, s);
-        let mut total = 0;
-        for i in 0..self.below.count(s) {
-            if let Some(m) = self.below.nth(s, i) {
-                if Y::keeps(calm, m.0) {
-                    total += 1;
-                }
-            }
-        }
-        total
+        let test = Shown::<Y>::of(Y::is_calm(&self.below, s));
+        count_kept(&self.below, s, &test)
     }
 
     fn nth(&self, s: usize, k: usize) -> Option<(Action, usize)> {
-        let calm = Y::is_calm(&self.below, s);
-        let mut left = k;
-        for i in 0..self.below.count(s) {
-            if let Some(m) = self.below.nth(s, i) {
-                if Y::keeps(calm, m.0) {
-                    if left == 0 {
-                        return Some(m);
-                    }
-                    left -= 1;
-                }
-            }
-        }
-        None
+        let test = Shown::<Y>::of(Y::is_calm(&self.below, s));
+        nth_kept(&self.below, s, k, &test)
     }
 }
