@@ -67,7 +67,15 @@ pub fn show_equal(
     t: usize,
     rows: &mut [EqualRow],
 ) -> Result<usize, AnyError> {
-    let count = match write_equal::<Standing, Table, Table>(settled, table, table, cells, s, t, rows) {
+    let count = match write_equal::<Standing, Table, Table>(
+        settled,
+        table,
+        table,
+        cells,
+        s,
+        t,
+        rows,
+    ) {
         Ok(count) => count,
         Err(refusal) => {
             let number = refusal.number();
@@ -96,7 +104,15 @@ pub fn show_different(
     t: usize,
     rows: &mut [DifferentRow],
 ) -> Result<(), AnyError> {
-    let count = match write_different::<Standing, Table, Table>(settled, table, table, cells, s, t, rows) {
+    let count = match write_different::<Standing, Table, Table>(
+        settled,
+        table,
+        table,
+        cells,
+        s,
+        t,
+        rows,
+    ) {
         Ok(count) => count,
         Err(refusal) => {
             let number = refusal.number();

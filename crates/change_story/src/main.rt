@@ -24,7 +24,13 @@ const NO_MOVE: DifferentRow = DifferentRow {
     k: 0,
 };
 
-fn enter(rt: &impl Print, book: &mut Book, table: &Table, socket: usize, state: usize) -> Result<(), AnyError> {
+fn enter(
+    rt: &impl Print,
+    book: &mut Book,
+    table: &Table,
+    socket: usize,
+    state: usize,
+) -> Result<(), AnyError> {
     match book.enter(table, socket, state) {
         Ok(()) => println!(rt, "socket {socket} is filled with state {state}")?,
         Err(fault) => {
@@ -35,14 +41,23 @@ fn enter(rt: &impl Print, book: &mut Book, table: &Table, socket: usize, state: 
     Ok(())
 }
 
-fn prove(rt: &impl Print, book: &mut Book, table: &Table, slip: &Slip, sheet: &[EqualRow]) -> Result<(), AnyError> {
+fn prove(
+    rt: &impl Print,
+    book: &mut Book,
+    table: &Table,
+    slip: &Slip,
+    sheet: &[EqualRow],
+) -> Result<(), AnyError> {
     match book.prove(table, slip, sheet) {
         Ok(()) => println!(rt, "  the change is proved")?,
         Err(fault) => {
             let report = fault.report();
             let number = report.number;
             let place = report.place;
-            println!(rt, "  the change is not proved: refused {number} at {place}")?
+            println!(
+                rt,
+                "  the change is not proved: refused {number} at {place}"
+            )?
         }
     }
     Ok(())
@@ -74,7 +89,10 @@ fn exchange(
     match book.propose(table, socket, state) {
         Err(fault) => {
             let number = fault.report().number;
-            println!(rt, "state {state} is not proposed for socket {socket}: refused {number}")?;
+            println!(
+                rt,
+                "state {state} is not proposed for socket {socket}: refused {number}"
+            )?;
             Ok(())
         }
         Ok(slip) => {
@@ -96,7 +114,10 @@ fn exchange(
 fn tell(rt: &impl Print, slip: &Slip, state: usize) -> Result<(), AnyError> {
     let number = slip.number();
     let socket = slip.socket();
-    println!(rt, "change {number}: state {state} is proposed for socket {socket}")?;
+    println!(
+        rt,
+        "change {number}: state {state} is proposed for socket {socket}"
+    )?;
     Ok(())
 }
 
@@ -134,11 +155,43 @@ fn play(rt: &LibcRuntime) -> Result<(), AnyError> {
     let mut book = Book::new();
     enter(rt, &mut book, &table, 1, parts::SESSION)?;
     enter(rt, &mut book, &table, 2, parts::MIRROR)?;
-    exchange(rt, &mut book, &table, &mut cells, &mut rows, 1, parts::SESSION_REWRITTEN)?;
-    exchange(rt, &mut book, &table, &mut cells, &mut rows, 2, parts::MIRROR_THAT_DELIVERS)?;
+    exchange(
+        rt,
+        &mut book,
+        &table,
+        &mut cells,
+        &mut rows,
+        1,
+        parts::SESSION_REWRITTEN,
+    )?;
+    exchange(
+        rt,
+        &mut book,
+        &table,
+        &mut cells,
+        &mut rows,
+        2,
+        parts::MIRROR_THAT_DELIVERS,
+    )?;
     let settled = compare(&table, &mut cells)?;
-    show_different(rt, &table, &cells, &settled, parts::MIRROR, parts::MIRROR_THAT_DELIVERS, &mut moves)?;
-    exchange(rt, &mut book, &table, &mut cells, &mut rows, 2, parts::MIRROR_REWRITTEN)?;
+    show_different(
+        rt,
+        &table,
+        &cells,
+        &settled,
+        parts::MIRROR,
+        parts::MIRROR_THAT_DELIVERS,
+        &mut moves,
+    )?;
+    exchange(
+        rt,
+        &mut book,
+        &table,
+        &mut cells,
+        &mut rows,
+        2,
+        parts::MIRROR_REWRITTEN,
+    )?;
     println!(rt, "a slip of another book:")?;
     stale_slip(rt, &mut book, &table)?;
     print_counts(rt, &book)

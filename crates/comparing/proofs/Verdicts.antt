@@ -15,7 +15,6 @@ use Rattle.theory.specs.Systems.{Lts}
 use Rattle.theory.specs.Layers.{standing, standing-layer}
 use Rattle.theory.specs.Designs.{Design, Equal-designs}
 use Rattle.refinement.specs.Rounds.{Struck-in, Rounds}
-use Rattle.comparison.specs.Comparisons.{begin-fault}
 use Rattle.comparison.specs.declared.comparison.Refusal.{Refusal}
 use Rattle.comparison.specs.declared.comparison.Refusal.the-variants.{Outsize, FewCells, OtherSizes, TooManySweeps, NoSuchState}
 use Rattle.comparison.specs.declared.comparison.Verdict.{Verdict}
@@ -51,9 +50,6 @@ module _ (n1 n2 s t : ℕ) (hs : s < n1) (ht : t < n2) where
   decide-asks : (len : ℕ) → decide-fault n1 n2 len s t ≡ cond (leb (n1 * n2) len) None (Some FewCells)
   decide-asks len = ap (λ b. cond b (cond (leb (n1 * n2) len) (cond (ltb s n1 && ltb t n2) None (Some NoSuchState)) (Some FewCells)) (Some Outsize)) states ∙ ap (λ b. cond (leb (n1 * n2) len) (cond b None (Some NoSuchState)) (Some FewCells)) exist
 
-  begin-asks : (len : ℕ) → begin-fault n1 n2 len ≡ cond (leb (n1 * n2) len) None (Some FewCells)
-  begin-asks len = ap (λ b. cond b (cond (leb (n1 * n2) len) None (Some FewCells)) (Some Outsize)) states
-
   enough : (b : Bool) → cond b None (Some FewCells) ≡ None → b ≡ true
   enough true e = refl
   enough false e = let z : _≡_ {A = ℕ} 0 1 = cc in let w : ⊥ = omega arith in elim w [ ]
@@ -62,10 +58,8 @@ module _ (n1 n2 s t : ℕ) (hs : s < n1) (ht : t < n2) where
   few true f e = let z : _≡_ {A = ℕ} 0 1 = cc in let w : ⊥ = omega arith in elim w [ ]
   few false f e = (refl, cc)
 
-  pub room : (len : ℕ) → decide-fault n1 n2 len s t ≡ None → (n1 * n2 ≤ len) × (begin-fault n1 n2 len ≡ None)
-  room len e =
-      let b = enough (leb (n1 * n2) len) (sym (decide-asks len) ∙ e) in
-      (leb-true (n1 * n2) len b, begin-asks len ∙ sym (decide-asks len) ∙ e)
+  pub room : (len : ℕ) → decide-fault n1 n2 len s t ≡ None → n1 * n2 ≤ len
+  room len e = leb-true (n1 * n2) len (enough (leb (n1 * n2) len) (sym (decide-asks len) ∙ e))
 
   pub refusal : (len : ℕ) (f : Refusal) → decide-fault n1 n2 len s t ≡ Some f → (len < n1 * n2) × (FewCells ≡ f)
   refusal len f e =
@@ -82,8 +76,8 @@ pairs-equal d e cells h = (
   refl,
 )
 
-pub final-by : (A B : Lts) (old new : List ℕ) → begin-fault (A .n) (B .n) (length old) ≡ None → Decided-cells standing-layer A B old new → Final standing-layer A B new
-final-by A B old new e h = go (begin-fault (A .n) (B .n) (length old)) e h where
+pub final-by : (A B : Lts) (old : List ℕ) (s t : ℕ) (new : List ℕ) → decide-fault (A .n) (B .n) (length old) s t ≡ None → Decided-cells standing-layer A B old s t new → Final standing-layer A B new
+final-by A B old s t new e h = go (decide-fault (A .n) (B .n) (length old) s t) e h where
   go : (o : Option Refusal) → o ≡ None → Left-by o standing-layer A B old new → Final standing-layer A B new
   go None e h = h .0
   go (Some f) e h = let z : _≡_ {A = ℕ} 0 1 = cc in let w : ⊥ = omega arith in elim w [ ]
@@ -104,20 +98,20 @@ module _ (d e : Design) (s t : ℕ) (old cells : List ℕ) (size : length old �
 
   module _ (sweeps : ℕ) (v : Verdict) (ok : decide-fault (d .sys .n) (e .sys .n) (length old) s t ≡ None) (true-of : True-of standing-layer (d .sys) (e .sys) s t v) (rounds : Rounds (standing (d .sys)) (standing (e .sys)) sweeps) where
     fits : d .sys .n * e .sys .n ≤ 16384
-    fits = omega (arith, room (d .sys .n) (e .sys .n) s t hs ht (length old) ok .0)
+    fits = omega (arith, room (d .sys .n) (e .sys .n) s t hs ht (length old) ok)
 
     starts-true : True-of standing-layer (d .sys) (e .sys) (d .start) (e .start) v
     starts-true =
         let P : ℕ → ℕ → Type 0 = λ x y. True-of standing-layer (d .sys) (e .sys) x y v in
         subst (P (d .start)) et (subst (λ (x : ℕ). P x t) es true-of)
 
-    pub settles-equal : Decided-cells standing-layer (d .sys) (e .sys) old cells → v ≡ Equal → (zeros : ℕ) → zeros ≡ passing (is-zero cells) (d .sys .n * e .sys .n) → Settles d e (answers.Equal sweeps zeros)
+    pub settles-equal : Decided-cells standing-layer (d .sys) (e .sys) old s t cells → v ≡ Equal → (zeros : ℕ) → zeros ≡ passing (is-zero cells) (d .sys .n * e .sys .n) → Settles d e (answers.Equal sweeps zeros)
     settles-equal left is many count = (
       fits,
       (
         starts-true .0 .0 is,
         rounds,
-        subst (Equal-pairs d e) (sym count) (pairs-equal d e cells (final-by (d .sys) (e .sys) old cells (room (d .sys .n) (e .sys .n) s t hs ht (length old) ok .1) left)),
+        subst (Equal-pairs d e) (sym count) (pairs-equal d e cells (final-by (d .sys) (e .sys) old s t cells ok left)),
       ),
     )
 
