@@ -50,7 +50,11 @@ fn judge(left: &WrittenDesign, right: &WrittenDesign, cells: &mut [u32]) -> Answ
 }
 
 // Compares two designs that passed the check.
-pub fn compare_nodes(heap: Global, first: &[Node], second: &[Node]) -> Result<Answer, AllocError>
+pub(crate) fn compare_nodes(
+    heap: Global,
+    first: &[Node],
+    second: &[Node],
+) -> Result<Answer, AllocError>
     requires first { ⌜ Passed (now first) ⌝ }
     requires second { ⌜ Passed (now second) ⌝ }
     ensures { λ r. ⌜ made r (λ a. Settles (written (now (first .entry))) (written (now (second .entry))) a) ⌝ }

@@ -4,7 +4,7 @@ ghost use lib.ListN.{length};
 ghost use Rattle.comparing.specs.Zeros.{passing, is-zero as isZero};
 
 // How many of the first n cells are zero.
-pub fn count_zeros(cells: &[u32], n: usize) -> usize
+pub(crate) fn count_zeros(cells: &[u32], n: usize) -> usize
     requires { ⌜ n ≤ length (now cells) ⌝ }
     ensures { λ r. ⌜ r ≡ passing (isZero (now (cells .entry))) n ⌝ }
 {

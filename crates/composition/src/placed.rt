@@ -6,7 +6,7 @@ use actions::action::Action;
 use systems::system::System;
 
 // The k-th transition of a state below, with its target t as the state t * factor + shift of the whole.
-pub fn nth_placed<S: System>(
+pub(crate) fn nth_placed<S: System>(
     below: &S,
     s: usize,
     k: usize,

@@ -11,7 +11,7 @@ use std::alloc::Global;
 
 const NODE_BYTES: usize = 23;
 
-pub fn field(bytes: &[u8], at: usize, size: usize) -> u64
+pub(crate) fn field(bytes: &[u8], at: usize, size: usize) -> u64
     requires inside { ⌜ at + size ≤ length (now bytes) ⌝ }
     requires small { ⌜ size ≤ 8 ⌝ }
     ensures value { λ r. ⌜ r ≡ fieldAt (now (bytes .entry)) at size ⌝ }
@@ -24,7 +24,7 @@ pub fn field(bytes: &[u8], at: usize, size: usize) -> u64
     value
 }
 
-pub fn word(bytes: &[u8], at: usize) -> u16
+pub(crate) fn word(bytes: &[u8], at: usize) -> u16
     requires { ⌜ at + 2 ≤ length (now bytes) ⌝ }
     ensures { λ r. ⌜ r ≡ fieldAt (now (bytes .entry)) at 2 ⌝ }
 {
@@ -45,7 +45,7 @@ fn node_at(bytes: &[u8], at: usize) -> Node
     }
 }
 
-pub fn nodes_at(
+pub(crate) fn nodes_at(
     heap: Global,
     bytes: &[u8],
     at: usize,
