@@ -33,16 +33,9 @@ module _ {X Y : Type 0} (b : X → Bool) (g : ℕ → Y) where
       go true h = h
       go false h = refl
 
--- what the two searches of a row find
-module _ (M N : Lts) (ok : ℕ → ℕ → Bool) (i s t : ℕ) where
-  numbered : (oks : ℕ → ℕ → Bool) (ms ks : List Move) (side : ℕ) (o : Option ℕ) → o ≡ first-unanswered oks ms ks → first (move-fault oks ks i side) 0 ms ≡ mapped (Unanswered i side) o
-  numbered oks ms ks side o e = first-mapped (answered oks ks) (Unanswered i side) 0 ms ∙ ap (mapped (Unanswered i side)) (sym e)
-
-  pub open-left : (k : ℕ) → Some k ≡ first-unanswered ok (M .moves s) (N .moves t) → Some (Unanswered i 0 k) ≡ answer-fault M N ok i s t
-  open-left k e = sym (ap (λ v. or-else v (first (move-fault (λ y x. ok x y) (M .moves s) i 1) 0 (N .moves t))) (numbered ok (M .moves s) (N .moves t) 0 (Some k) e))
-
-  pub open-right : (o : Option ℕ) → None ≡ first-unanswered ok (M .moves s) (N .moves t) → o ≡ first-unanswered (λ y x. ok x y) (N .moves t) (M .moves s) → mapped (Unanswered i 1) o ≡ answer-fault M N ok i s t
-  open-right o e f = sym (ap (λ v. or-else v (first (move-fault (λ y x. ok x y) (M .moves s) i 1) 0 (N .moves t))) (numbered ok (M .moves s) (N .moves t) 0 None e) ∙ numbered (λ y x. ok x y) (N .moves t) (M .moves s) 1 o f)
+-- the fault that a search of a row makes
+pub numbered : (ok : ℕ → ℕ → Bool) (ms ks : List Move) (i side : ℕ) (o : Option ℕ) → o ≡ first-unanswered ok ms ks → mapped (Unanswered i side) o ≡ first (move-fault ok ks i side) 0 ms
+numbered ok ms ks i side o e = ap (mapped (Unanswered i side)) e ∙ sym (first-mapped (answered ok ks) (Unanswered i side) 0 ms)
 
 -- relations that agree on states
 pub answered-same : (n : ℕ) (ok ko : ℕ → ℕ → Bool) (m : Move) (ks : List Move) → All (Sound n) ks → ((y : ℕ) → y < n → ok (m .1) y ≡ ko (m .1) y) → answered ok ks m ≡ answered ko ks m

@@ -1,14 +1,16 @@
 ghost use mathlib.Core.Path.{_≡_};
-ghost use mathlib.Core.Bool.{_&&_};
+ghost use mathlib.Core.Bool.{cond, _&&_};
 ghost use mathlib.Core.Logic.{_↔_};
 ghost use Prim.Native.Nat.{ℕ, _≤_};
 ghost use lib.Dec.{eqb};
 ghost use lib.ListN.{length};
+ghost use Rattle.std.specs.Options.{mapped};
 ghost use Rattle.std.specs.declared.result.Result.the-variants.{Ok, Err};
 ghost use Rattle.theory.specs.Layers.{shown};
 ghost use Rattle.theory.specs.Faults.{first-fault as firstFault, passed};
 ghost use Rattle.certificates.specs.declared.fault.SheetFault.{SheetFault as Fault};
-ghost use Rattle.certificates.specs.EqualSheets.{listed, answer-fault, equal-row-fault, equal-fault, Accepted-equal as AcceptedEqual, Refused-equal as RefusedEqual, Equal-decided as EqualDecided};
+ghost use Rattle.certificates.specs.declared.fault.SheetFault.the-variants.{Unanswered};
+ghost use Rattle.certificates.specs.EqualSheets.{listed, move-fault, answer-fault, equal-row-fault, equal-fault, Accepted-equal as AcceptedEqual, Refused-equal as RefusedEqual, Equal-decided as EqualDecided};
 ghost use Rattle.sheets.specs.Bitmaps.{within, pair-bit};
 use super::count::is_counted;
 use super::pair_set::PairSet;
@@ -20,16 +22,6 @@ use certificates::fault::SheetFault;
 use certificates::rows::EqualRow;
 use layers::layer::Layer;
 use systems::system::System;
-
-const FROM_LEFT: View = View {
-    flipped: false,
-    inside: true,
-};
-
-const FROM_RIGHT: View = View {
-    flipped: true,
-    inside: true,
-};
 
 // The pairs of the rows, as far as their states exist.
 fn gather(rows: &[EqualRow], n1: usize, n2: usize) -> PairSet
@@ -60,8 +52,42 @@ fn is_listed(rows: &[EqualRow], s: usize, t: usize) -> bool
     false
 }
 
-// The first transition of s, and else of t, that the other does not answer within the pairs.
+// The fault of a row that the number of an unanswered transition makes.
+fn fault_of(row: usize, side: u8, number: Option<usize>) -> Option<SheetFault>
+    ensures { λ r. ⌜ r ≡ mapped (Unanswered row side) number ⌝ }
+{
+    match number {
+        Some(k) => Some(SheetFault::Unanswered { row, side, k }),
+        None => None,
+    }
+}
+
+// The first transition of s that t does not answer within the pairs, seen from its side.
 fn find_open<Y: Layer, P: Held, S: System, T: System>(
+    mine: &S,
+    s: usize,
+    other: &T,
+    t: usize,
+    pairs: &P,
+    flipped: bool,
+    row: usize,
+    side: u8,
+) -> Option<SheetFault>
+    ensures { λ r. ⌜ r ≡ firstFault (move-fault (λ x y. cond flipped (P·Held .holds (now (pairs .entry)) y x) (P·Held .holds (now (pairs .entry)) x y)) (shown (Y·Layer .rule) (T·System .meaning (now (other .entry))) .moves t) row side) 0 (shown (Y·Layer .rule) (S·System .meaning (now (mine .entry))) .moves s) ⌝ }
+{
+    let within = View {
+        flipped,
+        inside: true,
+    };
+    fault_of(
+        row,
+        side,
+        find_unanswered::<Y, P, S, T>(mine, s, other, t, pairs, within),
+    )
+}
+
+// The first transition of s, and else of t, that the other does not answer within the pairs.
+fn pair_fault<Y: Layer, P: Held, S: System, T: System>(
     left: &S,
     s: usize,
     right: &T,
@@ -71,13 +97,10 @@ fn find_open<Y: Layer, P: Held, S: System, T: System>(
 ) -> Option<SheetFault>
     ensures { λ r. ⌜ r ≡ answer-fault (shown (Y·Layer .rule) (S·System .meaning (now (left .entry)))) (shown (Y·Layer .rule) (T·System .meaning (now (right .entry)))) (P·Held .holds (now (pairs .entry))) row s t ⌝ }
 {
-    if let Some(k) = find_unanswered::<Y, P, S, T>(left, s, right, t, pairs, FROM_LEFT) {
-        return Some(SheetFault::Unanswered { row, side: 0, k });
+    match find_open::<Y, P, S, T>(left, s, right, t, pairs, false, row, 0) {
+        Some(fault) => Some(fault),
+        None => find_open::<Y, P, T, S>(right, t, left, s, pairs, true, row, 1),
     }
-    if let Some(k) = find_unanswered::<Y, P, T, S>(right, t, left, s, pairs, FROM_RIGHT) {
-        return Some(SheetFault::Unanswered { row, side: 1, k });
-    }
-    None
 }
 
 fn row_fault<Y: Layer, P: Held, S: System, T: System>(
@@ -90,7 +113,7 @@ fn row_fault<Y: Layer, P: Held, S: System, T: System>(
     ensures { λ r. ⌜ r ≡ equal-row-fault (shown (Y·Layer .rule) (S·System .meaning (now (left .entry)))) (shown (Y·Layer .rule) (T·System .meaning (now (right .entry)))) (P·Held .holds (now (pairs .entry))) row at ⌝ }
 {
     if at.left < left.states() && at.right < right.states() {
-        find_open::<Y, P, S, T>(left, at.left, right, at.right, pairs, row)
+        pair_fault::<Y, P, S, T>(left, at.left, right, at.left, pairs, row)
     } else {
         Some(SheetFault::NoSuchState { row })
     }
