@@ -113,7 +113,7 @@ fn row_fault<Y: Layer, P: Held, S: System, T: System>(
     ensures { λ r. ⌜ r ≡ equal-row-fault (shown (Y·Layer .rule) (S·System .meaning (now (left .entry)))) (shown (Y·Layer .rule) (T·System .meaning (now (right .entry)))) (P·Held .holds (now (pairs .entry))) row at ⌝ }
 {
     if at.left < left.states() && at.right < right.states() {
-        pair_fault::<Y, P, S, T>(left, at.left, right, at.left, pairs, row)
+        pair_fault::<Y, P, S, T>(left, at.left, right, at.right, pairs, row)
     } else {
         Some(SheetFault::NoSuchState { row })
     }
