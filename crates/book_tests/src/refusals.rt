@@ -86,3 +86,17 @@ fn proving_a_change_that_is_not_open_names_the_socket(rt: LibcRuntime) -> Result
         Err(_) => Err(Fail::new("the proposal was refused")),
     }
 }
+
+#[test]
+fn the_book_holds_65535_proposals(rt: LibcRuntime) -> Result<(), Fail> {
+    let system = table(rt.alloc())?;
+    let mut book = Book::new();
+    check(book.enter(&system, 3, CHOICE).is_ok())?;
+    for _ in 0..65535 {
+        let proposed = book.propose(&system, 3, INNER);
+        check_eq(proposal(&mut book, proposed), 0)?;
+    }
+    check_eq(book.dropped(), 65535)?;
+    let over = book.propose(&system, 3, INNER);
+    check_eq(proposal(&mut book, over), 26)
+}

@@ -157,3 +157,35 @@ fn a_refused_sweep_gives_the_comparison_back(rt: LibcRuntime) -> Result<(), Fail
         }
     }
 }
+
+// One state with a transition to itself, and one with none: their pair is struck in every round that finds its cell zero.
+const LOOP: [Row; 1] = [Row {
+    from: 0,
+    code: 4,
+    to: 0,
+}];
+
+fn swept(open: Open<Standing>, left: &Table, right: &Table) -> Result<Open<Standing>, Refusal> {
+    let mut cells = [0; 1];
+    match open.sweep(left, right, &mut cells) {
+        Ok(step) => match step {
+            Step::Again(next) => Ok(next),
+            Step::Done(_) => Err(Refusal::Outsize),
+        },
+        Err(refused) => Err(refused.0),
+    }
+}
+
+#[test]
+fn no_more_sweeps_are_made_than_pairs_and_one(rt: LibcRuntime) -> Result<(), Fail> {
+    let left = Table::new(rt.alloc(), 1, &LOOP)?;
+    let right = Table::new(rt.alloc(), 1, &[])?;
+    let mut cells = [0; 1];
+    let open = Open::<Standing>::begin(&left, &right, &mut cells)?;
+    let once = swept(open, &left, &right)?;
+    let twice = swept(once, &left, &right)?;
+    match swept(twice, &left, &right) {
+        Ok(_) => Err(Fail::new("swept once more")),
+        Err(refusal) => check_eq(refusal.number(), 13),
+    }
+}
