@@ -8,7 +8,7 @@ pub returns-in-Equal : goal.returns-in-Equal
 returns-in-Equal c =
     let a = c.in-Ok.ensures.answer in
     let both : ℕ → ℕ → ℕ = λ m n. passing (is_zero c.decide.new.cells) (m * n) in
-    settles_equal (meant c.args.left.now) (meant c.args.right.now) c.start.result c.start-2.result c.args.cells.now c.decide.new.cells c.requires.size c.start.ensures c.start-2.ensures c.requires.first c.requires.second c.in-Ok.decision.sweeps c.in-Ok.decision.verdict a.0 a.1 a.2 c.in-Ok.ensures.cells c.in-Equal.is _ (c.count-zeros.ensures ∙ ap₂ both c.states.ensures c.states-in-Equal.ensures)
+    settles_equal (meant c.args.left.now) (meant c.args.right.now) c.start.result c.start-2.result c.args.cells.now c.decide.new.cells c.requires.size c.start.ensures c.start-2.ensures c.requires.first c.requires.second c.in-Ok.decision.sweeps c.in-Ok.decision.verdict a.0 a.1 a.2 c.in-Ok.ensures.cells c.in-Equal.is _ (c.count_zeros.ensures ∙ ap₂ both c.states.ensures c.states-in-Equal.ensures)
 
 pub returns-in-Different : goal.returns-in-Different
 returns-in-Different c =

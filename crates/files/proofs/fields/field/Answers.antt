@@ -2,11 +2,11 @@ use Rattle.std.proofs.Common.{◌+◌, ◌<◌, length, get_or, arith}
 use Rattle.files.proofs.Bytes.{next_bound, next_fits, next_value}
 use Rattle.files.proofs.fields.field.Goals as goal
 
-pub overflow-mul-value : goal.overflow-mul-value
-overflow-mul-value c = omega (arith, next_fits c.loop-k.value 0 c.loop-k.k c.loop-k.invariant.1 (omega arith) (omega arith))
+pub overflow_mul-value : goal.overflow_mul-value
+overflow_mul-value c = omega (arith, next_fits c.loop-k.value 0 c.loop-k.k c.loop-k.invariant.1 (omega arith) (omega arith))
 
-pub overflow-add-value-in-loop-k : goal.overflow-add-value-in-loop-k
-overflow-add-value-in-loop-k c =
+pub overflow_add-value-in-loop-k : goal.overflow_add-value-in-loop-k
+overflow_add-value-in-loop-k c =
     let d : get_or c.args.bytes.now (c.args.at + c.loop-k.k) 0 < 256 = omega arith in
     omega (arith, next_fits c.loop-k.value _ c.loop-k.k c.loop-k.invariant.1 d (omega arith))
 

@@ -8,4 +8,4 @@ pub loop-k-preserved : goal.loop-k-preserved
 loop-k-preserved c =
     let add : List Node → Node → List Node = λ xs x. xs ++ (x ∷ []) in
     let f : ℕ → Node = λ k. node_at c.args.bytes.now (c.args.at + 23 * k) in
-    c.in-ok-push.ensures.items ∙ ap₂ add c.loop-k.invariant c.node-at.ensures ∙ sym (map-range_with_len_more f 0 c.loop-k.k c.loop-k.k (omega arith))
+    c.in_ok-push.ensures.items ∙ ap₂ add c.loop-k.invariant c.node_at.ensures ∙ sym (map-range_with_len_more f 0 c.loop-k.k c.loop-k.k (omega arith))

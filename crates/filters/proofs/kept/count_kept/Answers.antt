@@ -3,7 +3,7 @@ use Rattle.theory.proofs.Scans.{scan_yes, scan_no, scan_all}
 use Rattle.actions.specs.Transitions.{move_of}
 use Rattle.filters.specs.Kept.{by_code}
 use Rattle.filters.proofs.kept.count_kept.Goals as goal
-use Rattle.filters.proofs.kept.count_kept.Goals.{in-Some+then-keeps, in-Some+else-keeps, in-default}
+use Rattle.filters.proofs.kept.count_kept.Goals.{in-Some+then-keeps, in-Some+else-keeps, in_default}
 
 pub loop-i-preserved : goal.loop-i-preserved
 loop-i-preserved g c =
@@ -18,7 +18,7 @@ loop-i-preserved g c =
           let e = w.in-Some.ensures in
           let q = scan_no p ms c.loop-i.i (0, 0) (move_of w.in-Some.m) e.0 e.1 (sym w.if-keeps.ensures) in
           (omega (arith, w.total-is), omega (arith, w.total-is))
-      | in-default w ↦ omega (arith, w.in-default.ensures)
+      | in_default w ↦ omega (arith, w.in_default.ensures)
     ]
 
 pub returns : goal.returns

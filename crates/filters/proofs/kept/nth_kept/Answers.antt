@@ -3,7 +3,7 @@ use Rattle.theory.proofs.Scans.{scan_yes, scan_no, scan_hit, scan_all}
 use Rattle.actions.specs.Transitions.{move_of}
 use Rattle.filters.specs.Kept.{by_code}
 use Rattle.filters.proofs.kept.nth_kept.Goals as goal
-use Rattle.filters.proofs.kept.nth_kept.Goals.{in-Some+then-keeps+else-left-eq0, in-Some+else-keeps, in-default}
+use Rattle.filters.proofs.kept.nth_kept.Goals.{in-Some+then-keeps+else-left-eq0, in-Some+else-keeps, in_default}
 
 pub returns-then-left-eq0 : goal.returns-then-left-eq0
 returns-then-left-eq0 g c =
@@ -23,7 +23,7 @@ loop-i-preserved g c =
       | in-Some+else-keeps w ↦
           let e = w.in-Some.ensures in
           omega (arith, w.left-is, scan_no p ms c.loop-i.i (0, 0) (move_of w.in-Some.m) e.0 e.1 (sym w.if-keeps.ensures))
-      | in-default w ↦ omega (arith, w.in-default.ensures)
+      | in_default w ↦ omega (arith, w.in_default.ensures)
     ]
 
 pub returns : goal.returns

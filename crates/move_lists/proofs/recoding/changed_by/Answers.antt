@@ -13,7 +13,7 @@ loop-m-preserved c =
     let with_code : ℕ → List Move = λ a. moves_of (vec_items c.loop-m.out) ++ ((a, x.1) ∷ []) in
     grow (λ xs. map f (moves_of xs)) c.args.ms.now c.loop-m.m-index [] _ c.loop-m.invariant _ _
     (mapped_more c.args.ms.now c.loop-m.m-index c.loop-m-test.true x c.m-item.is f)
-    (pushed _ _ _ c.in-ok-push.ensures.items ∙ ap with_code c.of.ensures)
+    (pushed _ _ _ c.in_ok-push.ensures.items ∙ ap with_code c.of.ensures)
 
 pub returns : goal.returns
 returns c = grown (λ xs. map (recoded (changed c.args.change)) (moves_of xs)) c.args.ms.now c.loop-m.m-index [] _ c.loop-m.invariant c.loop-m-test.false

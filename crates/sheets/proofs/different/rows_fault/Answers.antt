@@ -18,7 +18,7 @@ returns-in-Some g c =
     let p = c.loop-i.pairs in
     let inv = c.loop-i.invariant in
     let same = gathered_row (shown rule x) (shown rule y) (shown_lawful rule x (g.S.System.lawful c.args.left.now)) (shown_lawful rule y (g.T.System.lawful c.args.right.now)) p.n1 p.n2 inv.0 inv.1 p.words rows i (different_row rows i) inv.2 in
-    sym (inv.3 ∙ first_hit q rows i (record { left = 0; right = 0; side = 0; k = 0 }) (different_row rows i) c.loop-i-test.true refl i c.in-Some.fault (sym same ∙ sym c.row-fault.ensures ∙ c.in-Some.is))
+    sym (inv.3 ∙ first_hit q rows i (record { left = 0; right = 0; side = 0; k = 0 }) (different_row rows i) c.loop-i-test.true refl i c.in-Some.fault (sym same ∙ sym c.row_fault.ensures ∙ c.in-Some.is))
 
 pub loop-i-preserved : goal.loop-i-preserved
 loop-i-preserved g c =
@@ -34,7 +34,7 @@ loop-i-preserved g c =
       c.insert.ensures.sizes.0 ∙ inv.0,
       c.insert.ensures.sizes.1 ∙ inv.1,
       gathered_next x.n y.n p.n1 p.n2 i p.words c.insert.new.self.words rows inv.0 inv.1 c.loop-i-test.true inv.2 c.insert.ensures.pairs,
-      inv.3 ∙ first_miss q rows i (record { left = 0; right = 0; side = 0; k = 0 }) (different_row rows i) c.loop-i-test.true refl i (sym same ∙ sym c.row-fault.ensures ∙ c.in-default.is),
+      inv.3 ∙ first_miss q rows i (record { left = 0; right = 0; side = 0; k = 0 }) (different_row rows i) c.loop-i-test.true refl i (sym same ∙ sym c.row_fault.ensures ∙ c.in_default.is),
     )
 
 pub returns : goal.returns

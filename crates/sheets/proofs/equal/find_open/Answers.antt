@@ -8,4 +8,4 @@ returns g c =
     let h = g.P.Held.holds c.args.pairs.now in
     let ms = (shown g.Y.Layer.rule (g.S.System.meaning c.args.mine.now)).moves c.args.s in
     let ks = (shown g.Y.Layer.rule (g.T.System.meaning c.args.other.now)).moves c.args.t in
-    c.fault-of.ensures ∙ numbered (λ x y. cond c.args.flipped (h y x) (h x y)) ms ks c.args.row c.args.side c.find-unanswered.result c.find-unanswered.ensures
+    c.fault_of.ensures ∙ numbered (λ x y. cond c.args.flipped (h y x) (h x y)) ms ks c.args.row c.args.side c.find_unanswered.result c.find_unanswered.ensures

@@ -9,8 +9,8 @@ use Rattle.writers.proofs.Entries.{has_row}
 use Rattle.writers.proofs.Sequences.{none_some}
 use Rattle.writers.proofs.different.fill_sheet.Goals as goal
 
-pub fill-rounds-count-requires : goal.fill-rounds-count-requires
-fill-rounds-count-requires g c =
+pub fill_rounds-count-requires : goal.fill_rounds-count-requires
+fill_rounds-count-requires g c =
     let a = shown g.Y.Layer.rule (g.S.System.meaning c.args.left.now) in
     let b = shown g.Y.Layer.rule (g.T.System.meaning c.args.right.now) in
     let cell = cell_of c.args.cells.now in
@@ -27,7 +27,7 @@ bounds-rows-count g c =
     let n = (g.S.System.meaning c.args.left.now).n * (g.T.System.meaning c.args.right.now).n in
     let cell = cell_of c.args.cells.now in
     let asked = c.args.asked in
-    omega (arith, c.requires.room, length_push (rounds cell n (cell asked - 1)) asked, c.fill-rounds-count.ensures.count, c.fill-rounds-count.auto.rows)
+    omega (arith, c.requires.room, length_push (rounds cell n (cell asked - 1)) asked, c.fill_rounds-count.ensures.count, c.fill_rounds-count.auto.rows)
 
 pub returns-in-Some : goal.returns-in-Some
 returns-in-Some g c =
@@ -35,8 +35,8 @@ returns-in-Some g c =
     let b = shown g.Y.Layer.rule (g.T.System.meaning c.args.right.now) in
     let cell = cell_of c.args.cells.now in
     let asked = c.args.asked in
-    filled_more (cell_entry a b cell) (rounds cell (a.n * b.n) (cell asked - 1)) c.args.rows.now c.fill-rounds-count.new.rows c.fill-rounds-count.result asked c.in-Some.row c.fill-rounds-count.ensures (sym c.find-entry.ensures ∙ c.in-Some.is)
-    (omega (arith, c.requires.room, length_push (rounds cell (a.n * b.n) (cell asked - 1)) asked, c.fill-rounds-count.ensures.count, c.fill-rounds-count.auto.rows))
+    filled_more (cell_entry a b cell) (rounds cell (a.n * b.n) (cell asked - 1)) c.args.rows.now c.fill_rounds-count.new.rows c.fill_rounds-count.result asked c.in-Some.row c.fill_rounds-count.ensures (sym c.find_entry.ensures ∙ c.in-Some.is)
+    (omega (arith, c.requires.room, length_push (rounds cell (a.n * b.n) (cell asked - 1)) asked, c.fill_rounds-count.ensures.count, c.fill_rounds-count.auto.rows))
 
 pub returns-in-None : goal.returns-in-None
 returns-in-None g c =
@@ -44,5 +44,5 @@ returns-in-None g c =
     let b = shown g.Y.Layer.rule (g.T.System.meaning c.args.right.now) in
     let cell = cell_of c.args.cells.now in
     let asked = c.args.asked in
-    let z : ⊥ = none_some (cell_entry a b cell asked) (has_row a b cell asked c.requires.asked c.requires.struck c.requires.moves asked c.requires.asked (or_right (lower cell (cell asked) asked) (eqb asked asked) (eq-eqb asked asked refl))) (sym c.find-entry.ensures ∙ c.in-None.is) in
+    let z : ⊥ = none_some (cell_entry a b cell asked) (has_row a b cell asked c.requires.asked c.requires.struck c.requires.moves asked c.requires.asked (or_right (lower cell (cell asked) asked) (eqb asked asked) (eq-eqb asked asked refl))) (sym c.find_entry.ensures ∙ c.in-None.is) in
     elim z [ ]

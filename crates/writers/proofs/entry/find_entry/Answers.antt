@@ -11,13 +11,13 @@ returns-in-Some g c =
     let e = c.new-lower.ensures in
     found_left a b c.args.cells.now p.cells.now p.n2 c.states-n2.result p.below c.args.i e.0 e.1.0 c.states-n2.ensures e.1.1 c.in-Some.k c.in-Some.ensures
 
-pub returns-in-Some-find-unanswered : goal.returns-in-Some-find-unanswered
-returns-in-Some-find-unanswered g c =
+pub returns-in-Some-find_unanswered : goal.returns-in-Some-find_unanswered
+returns-in-Some-find_unanswered g c =
     let a = shown g.Y.Layer.rule (g.S.System.meaning c.args.left.now) in
     let b = shown g.Y.Layer.rule (g.T.System.meaning c.args.right.now) in
     let p = c.new-lower.result in
     let e = c.new-lower.ensures in
-    found_right a b c.args.cells.now p.cells.now p.n2 c.states-n2.result p.below c.args.i e.0 e.1.0 c.states-n2.ensures e.1.1 (Some c.in-Some-find-unanswered.k) c.in-default.ensures c.in-Some-find-unanswered.ensures
+    found_right a b c.args.cells.now p.cells.now p.n2 c.states-n2.result p.below c.args.i e.0 e.1.0 c.states-n2.ensures e.1.1 (Some c.in-Some-find_unanswered.k) c.in_default.ensures c.in-Some-find_unanswered.ensures
 
 pub returns : goal.returns
 returns g c =
@@ -25,4 +25,4 @@ returns g c =
     let b = shown g.Y.Layer.rule (g.T.System.meaning c.args.right.now) in
     let p = c.new-lower.result in
     let e = c.new-lower.ensures in
-    found_right a b c.args.cells.now p.cells.now p.n2 c.states-n2.result p.below c.args.i e.0 e.1.0 c.states-n2.ensures e.1.1 None c.in-default.ensures c.in-default-find-unanswered.ensures
+    found_right a b c.args.cells.now p.cells.now p.n2 c.states-n2.result p.below c.args.i e.0 e.1.0 c.states-n2.ensures e.1.1 None c.in_default.ensures c.in_default-find_unanswered.ensures

@@ -7,17 +7,17 @@ use Rattle.writers.specs.Writes.{cell_of}
 use Rattle.writers.proofs.Fills.{filled_total}
 use Rattle.writers.proofs.equal.list_zeros.Goals as goal
 
-pub returns-then-count-zeros-rows : goal.returns-then-count-zeros-rows
-returns-then-count-zeros-rows c =
+pub returns-then-count_zeros-rows : goal.returns-then-count_zeros-rows
+returns-then-count_zeros-rows c =
     let nums = numbers (is_zero (cell_of c.args.cells.now)) c.args.pairs in
-    (ap (λ v. cond v None (Some FewRows)) (lt-leb (length (equal_listing c.args.n2 (is_zero (cell_of c.args.cells.now)) c.args.pairs)) (length c.args.rows.now) (omega (arith, c.if-count-zeros-rows.true, c.count-zeros.ensures, length-map nums (pair_at c.args.n2)))), refl)
+    (ap (λ v. cond v None (Some FewRows)) (lt-leb (length (equal_listing c.args.n2 (is_zero (cell_of c.args.cells.now)) c.args.pairs)) (length c.args.rows.now) (omega (arith, c.if-count_zeros-rows.true, c.count_zeros.ensures, length-map nums (pair_at c.args.n2)))), refl)
 
 pub returns : goal.returns
 returns c =
     let nums = numbers (is_zero (cell_of c.args.cells.now)) c.args.pairs in
-    let h = c.fill-zeros.ensures in (
-      ap (λ v. cond v None (Some FewRows)) (le-leb (length (equal_listing c.args.n2 (is_zero (cell_of c.args.cells.now)) c.args.pairs)) (length c.args.rows.now) (omega (arith, c.if-count-zeros-rows.false, c.count-zeros.ensures, length-map nums (pair_at c.args.n2)))),
+    let h = c.fill_zeros.ensures in (
+      ap (λ v. cond v None (Some FewRows)) (le-leb (length (equal_listing c.args.n2 (is_zero (cell_of c.args.cells.now)) c.args.pairs)) (length c.args.rows.now) (omega (arith, c.if-count_zeros-rows.false, c.count_zeros.ensures, length-map nums (pair_at c.args.n2)))),
       h.within,
-      filled_total (pair_at c.args.n2) nums (take c.fill-zeros.result c.fill-zeros.new.rows) h.rows,
+      filled_total (pair_at c.args.n2) nums (take c.fill_zeros.result c.fill_zeros.new.rows) h.rows,
       h.rest,
     )

@@ -11,5 +11,5 @@ returns-in-Prove g c =
     let M = g.S.System.meaning c.args.system.now in
     let b = view c.args.self.now in
     let after = view c.prove.new.self in
-    let p = subst (λ (rows : List EqualRow). Proves M b c.in-Prove.socket c.in-Prove.number rows after) c.as-slice.ensures.value c.prove.ensures.step in
+    let p = subst (λ (rows : List EqualRow). Proves M b c.in-Prove.socket c.in-Prove.number rows after) c.as_slice.ensures.value c.prove.ensures.step in
     subst (λ (x : Request). Step M b (call_of x) after) (sym c.in-Prove.is) p

@@ -12,4 +12,4 @@ returns-else-s-eq0 g c =
     let M = g.S.System.meaning x.below in
     let X = prefix x.action.code x.start M in
     c.count.ensures
-    ∙ sym (ap (λ (Y : Lts). length (Y.moves s)) (within (ltb x.start M.n) X c.size.result c.size.ensures c.if-is-none.ensures) ∙ ap length (prefix_inside x.action.code x.start M s c.if-s-eq0.false) ∙ length-map (M.moves (s - 1)) (placed 1 1))
+    ∙ sym (ap (λ (Y : Lts). length (Y.moves s)) (within (ltb x.start M.n) X c.size.result c.size.ensures c.if-is_none.ensures) ∙ ap length (prefix_inside x.action.code x.start M s c.if-s-eq0.false) ∙ length-map (M.moves (s - 1)) (placed 1 1))

@@ -15,35 +15,25 @@ loop-s-preserved g c =
     let list = c.append.new.out in
     let n : c.len.result ≡ length (moves_of (vec_items list)) = omega (arith, c.len.ensures, list.ok.0, length-map (vec_items list) move_of) in
     filled_more (g.L.Lists.meaning source) (g.L.Lists.lawful source) (vec_items c.loop-s.cuts) (vec_items c.push-in-loop-s.new.self) (moves_of (vec_items c.loop-s.list)) (moves_of (vec_items list)) c.loop-s.s c.len.result c.loop-s.invariant
-    c.in-ok-append.ensures
+    c.in_ok-append.ensures
     n
-    c.in-ok-push-2.ensures.items
+    c.in_ok-push-2.ensures.items
 
-pub invariant-of-result : goal.invariant-of-result
-invariant-of-result g c =
+pub invariant_of-result : goal.invariant_of-result
+invariant_of-result g c =
     let source = c.args.source.now in
     let M = g.L.Lists.meaning source in
     let law = g.L.Lists.lawful source in
     let h = filled_to M (vec_items c.loop-s.cuts) (moves_of (vec_items c.loop-s.list)) c.loop-s.s c.states-n.result c.loop-s-test.false c.loop-s.auto.s-end c.loop-s.invariant in
-    let sound : All (Sound c.states-n.result) (moves_of (vec_items c.loop-s.list)) = subst (λ n. All (Sound n) (moves_of (vec_items c.loop-s.list))) (sym c.states-n.ensures) h.sound in (
-      omega (arith, c.states-n.ensures, law.few),
-      (
-        omega (arith, c.width.ensures, law.narrow),
-        (
-          h.cut,
-          (
-            subst (λ w. Narrow (vec_items c.loop-s.cuts) w c.states-n.result) (sym c.width.ensures) h.narrow,
-            (
-              inside_sound c.states-n.result (vec_items c.loop-s.list) sound,
-              (
-                (λ e. c.width.ensures ∙ law.empty (sym c.states-n.ensures ∙ e)),
-                tt,
-              ),
-            ),
-          ),
-        ),
-      ),
-    )
+    let sound : All (Sound c.states-n.result) (moves_of (vec_items c.loop-s.list)) = subst (λ n. All (Sound n) (moves_of (vec_items c.loop-s.list))) (sym c.states-n.ensures) h.sound in
+    record {
+      few = omega (arith, c.states-n.ensures, law.few);
+      narrow = omega (arith, c.width.ensures, law.narrow);
+      cut = h.cut;
+      short = subst (λ w. Narrow (vec_items c.loop-s.cuts) w c.states-n.result) (sym c.width.ensures) h.narrow;
+      inside = inside_sound c.states-n.result (vec_items c.loop-s.list) sound;
+      empty = λ e. c.width.ensures ∙ law.empty (sym c.states-n.ensures ∙ e);
+    }
 
 pub returns : goal.returns
 returns g c =

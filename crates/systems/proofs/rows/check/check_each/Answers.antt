@@ -4,13 +4,13 @@ use Rattle.theory.proofs.Faults.{refused_here, passed_here, passed_all}
 use Rattle.systems.specs.Rows.{row_fault}
 use Rattle.systems.proofs.rows.check.check_each.Goals as goal
 
-pub returns-in-err-check : goal.returns-in-err-check
-returns-in-err-check c =
-    let p = err_from_is_err_and c.from-residual.result c.from-residual.ensures.1 in
-    rw (p.1, p.2) (refused_here (row_fault c.args.n) c.args.rows.now c.loop-i.i c.loop-i.invariant _ c.in-err-check.field-0.0 c.loop-i-test.true c.in-err-check.ensures)
+pub returns-in_err-check : goal.returns-in_err-check
+returns-in_err-check c =
+    let p = err_from_is_err_and c.from_residual.result c.from_residual.ensures.1 in
+    rw (p.1, p.2) (refused_here (row_fault c.args.n) c.args.rows.now c.loop-i.i c.loop-i.invariant _ c.in_err-check.field-0.0 c.loop-i-test.true c.in_err-check.ensures)
 
 pub loop-i-preserved : goal.loop-i-preserved
-loop-i-preserved c = passed_here (row_fault c.args.n) c.args.rows.now c.loop-i.i c.loop-i.invariant _ _ c.loop-i-test.true c.in-ok-check.ensures
+loop-i-preserved c = passed_here (row_fault c.args.n) c.args.rows.now c.loop-i.i c.loop-i.invariant _ _ c.loop-i-test.true c.in_ok-check.ensures
 
 pub returns : goal.returns
 returns c = passed_all (row_fault c.args.n) c.args.rows.now c.loop-i.i c.loop-i.invariant c.loop-i-test.false

@@ -2,8 +2,8 @@ use Rattle.std.proofs.Common.{arith}
 use Rattle.systems.proofs.Listings.{cuts_rise, count_is, kth_is}
 use Rattle.systems.proofs.listed.reads.ListedSystem.nth.Goals as goal
 
-pub overflow-sub-to : goal.overflow-sub-to
-overflow-sub-to c = (cuts_rise c.args.self.now c.args.s c.if-s-self.false c.index-from.result.now c.index-to.result.now c.index-from.ensures c.index-to.ensures).0
+pub overflow_sub-to : goal.overflow_sub-to
+overflow_sub-to c = (cuts_rise c.args.self.now c.args.s c.if-s-self.false c.index-from.result.now c.index-to.result.now c.index-from.ensures c.index-to.ensures).0
 
 pub index-requires : goal.index-requires
 index-requires c = omega (arith, c.if-k-to.true, c.args.self.now.list.ok.0, cuts_rise c.args.self.now c.args.s c.if-s-self.false c.index-from.result.now c.index-to.result.now c.index-from.ensures c.index-to.ensures)
