@@ -52,12 +52,7 @@ pub fn print_comparison(rt: &HostRuntime) -> anyhow::Result<()> {
     match decide::<Standing, Protocol, Table>(&system, &goal, 0, 0, &mut cells) {
         Ok(decision) => {
             let sweeps = decision.sweeps;
-            let mut equal = 0;
-            for cell in &cells {
-                if *cell == 0 {
-                    equal += 1;
-                }
-            }
+            let equal = cells.iter().filter(|&&cell| cell == 0).count();
             println!(rt; "compared: {sweeps} sweeps, {equal} equal pairs")?;
             Ok(())
         }
