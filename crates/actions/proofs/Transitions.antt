@@ -1,9 +1,8 @@
 -- Every transition that the code holds has a lawful action.
-use Rattle.std.proofs.Common.{◌≡◌, ℕ, ◌+◌, ◌<◌, true, List, [], ◌∷◌, map, length, get_or, sym, refl, ap, ◌∙◌, subst, add-one, arith}
+use Rattle.std.proofs.Common.{◌≡◌, ℕ, ◌+◌, ◌<◌, List, [], ◌∷◌, map, length, get_or, sym, refl, ap, ◌∙◌, subst, add-one, arith}
 use Rattle.std.proofs.ByRecursion.{All-get_or}
 use Rattle.std.proofs.lemmas.List.{length-map, get_or-map}
 use Rattle.std.specs.List.{AllByRecursion as All}
-use Rattle.theory.specs.Codes.{lawful_code}
 use Rattle.theory.specs.Systems.{Move, Sound}
 use Rattle.actions.specs.declared.action.Action.{Action}
 use Rattle.actions.specs.Transitions.{move_of, moves_of, Inside}

@@ -1,3 +1,5 @@
 // Answers: which transitions of one state no transition of another answers, within a set of pairs or outside it.
+#![tactic(auto)]
+
 pub mod held;
 pub mod search;

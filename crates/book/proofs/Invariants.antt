@@ -1,6 +1,6 @@
 -- Every run from a blank book keeps in each socket a first and a current part that are equal states, and, where a change is
 -- proved, a state proposed that is equal to the current one.
-use Rattle.std.proofs.Common.{◌≡◌, ℕ, zero, suc, ◌+◌, ◌-◌, ◌<◌, Bool, true, false, cond, ◌&&◌, eqb, ltb, List, [], ◌∷◌, get_or, set, replicate, Some, None, Option, sym, refl, ap, ◌∙◌, subst, inl, inr, arith}
+use Rattle.std.proofs.Common.{◌≡◌, ℕ, zero, suc, ◌+◌, ◌-◌, ◌<◌, Bool, true, false, cond, eqb, ltb, List, [], ◌∷◌, get_or, replicate, Some, None, Option, sym, refl, subst, arith}
 use Rattle.std.specs.List.{AllByRecursion as All}
 use Rattle.std.proofs.ByRecursion.{All-set}
 use Rattle.std.proofs.lemmas.Bool.{ltb-true}
@@ -12,14 +12,13 @@ use Rattle.theory.proofs.Laws.{shown_lawful}
 use Rattle.congruence.specs.Expressions.{Exchangeable}
 use Rattle.congruence.proofs.Expressions.{exchange}
 use Rattle.certificates.specs.declared.rows.EqualRow.{EqualRow}
-use Rattle.certificates.specs.EqualSheets.{AcceptedEqual, EqualSheets}
+use Rattle.certificates.specs.EqualSheets.{EqualSheets}
 use Rattle.book.specs.declared.socket.Change.{Change}
-use Rattle.book.specs.declared.socket.Holding.{Holding}
 use Rattle.book.specs.declared.socket.Socket.{Socket}
 use Rattle.book.specs.declared.socket.Socket.TheVariants.{Empty, Filled}
 use Rattle.book.specs.declared.fault.BookFault.{BookFault}
 use Rattle.book.specs.declared.fault.BookFault.TheVariants.{NoSocket, NoState}
-use Rattle.book.specs.Plain.{Plain, blank, socket_number, at, with_socket, unless, empty_fault, enter_fault, filled, entered, free_fault, propose_fault, opened, with_proposed, numbered, change_in, current_in, first_in, Accepts, marked, with_proof, Proves, not_open, accepted, not_accepted, with_part, ended, closing, closed, Call, enter, propose, prove, close, Step, Run}
+use Rattle.book.specs.Plain.{Plain, blank, socket_number, at, with_socket, unless, empty_fault, enter_fault, filled, entered, free_fault, propose_fault, opened, with_proposed, numbered, change_in, current_in, first_in, Accepts, marked, Proves, not_open, accepted, not_accepted, with_part, ended, closing, closed, Call, enter, propose, prove, close, Step, Run}
 use Rattle.book.specs.Promises.{is_filled, KeepsDesigns, RunsKeepDesigns, current_part, first_part}
 
 module _ (M : Lts) where

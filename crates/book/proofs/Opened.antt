@@ -1,12 +1,11 @@
 -- What a write to the socket of an open change makes of the plain book.
-use Rattle.std.proofs.Common.{◌≡◌, ℕ, ◌+◌, ◌-◌, ◌<◌, ◌≤◌, Bool, true, false, cond, eqb, List, length, get_or, set, Some, None, Option, sym, refl, ap, ◌∙◌, arith, eq-eqb}
+use Rattle.std.proofs.Common.{◌≡◌, ℕ, ◌+◌, ◌-◌, ◌≤◌, true, false, eqb, length, get_or, set, Some, None, Option, sym, ap, ◌∙◌, eq-eqb}
 use Rattle.book.specs.declared.socket.Change.{Change}
-use Rattle.book.specs.declared.socket.Holding.{Holding}
 use Rattle.book.specs.declared.socket.Socket.{Socket}
 use Rattle.book.specs.declared.socket.Socket.TheVariants.{Empty, Filled}
 use Rattle.book.specs.declared.book.pending.Pending.{Pending}
 use Rattle.book.specs.Counts.{open_in, open_changes}
-use Rattle.book.specs.Plain.{Plain, socket_number, socket_in, at, with_socket, numbered, change_in, current_in, marked, with_proof, with_part, ended, closed, closing}
+use Rattle.book.specs.Plain.{Plain, at, change_in, current_in, with_proof, closed}
 use Rattle.book.specs.Openings.{FoundOpen}
 use Rattle.book.proofs.Counting.{written, counted}
 

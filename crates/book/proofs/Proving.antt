@@ -1,17 +1,16 @@
 -- What proving does to the plain book, and what it answers, by what the check of the sheet says.
-use Rattle.std.proofs.Common.{◌≡◌, ℕ, true, List, set, IfErr, Some, None, Ok, Err, Option, Result, sym, refl, ap, ◌∙◌, subst, arith}
+use Rattle.std.proofs.Common.{◌≡◌, ℕ, true, List, set, IfErr, Some, None, Ok, Err, Result, sym, refl, subst, arith}
 use Rattle.theory.specs.Systems.{Lts}
 use Rattle.theory.specs.Layers.{standing}
 use Rattle.certificates.specs.declared.rows.EqualRow.{EqualRow}
 use Rattle.certificates.specs.declared.fault.SheetFault.{SheetFault}
 use Rattle.certificates.specs.EqualSheets.{AcceptedEqual, RefusedEqual, equal_fault}
 use Rattle.certificates.proofs.EqualTold.{equal_accepted, equal_refused}
-use Rattle.book.specs.declared.socket.Change.{Change}
 use Rattle.book.specs.declared.socket.Socket.TheVariants.{Filled}
 use Rattle.book.specs.declared.book.pending.Pending.{Pending}
 use Rattle.book.specs.declared.fault.BookFault.{BookFault}
 use Rattle.book.specs.declared.fault.BookFault.TheVariants.{Sheet}
-use Rattle.book.specs.Plain.{Plain, at, change_in, current_in, with_proof, Proves, accepted, not_accepted}
+use Rattle.book.specs.Plain.{Plain, at, current_in, Proves, accepted, not_accepted}
 use Rattle.book.specs.Openings.{FoundOpen}
 use Rattle.book.specs.Views.{SheetAnswer, ChangeAnswer, ProofAnswer}
 use Rattle.book.proofs.Opened.{change_is, current_is, proof_is}

@@ -1,5 +1,5 @@
 -- What the book finds of the change that a slip stands for.
-use Rattle.std.specs.Prelude.{◌≡◌, ℕ, ◌-◌, ◌<◌, true, cond, List, Some, None, Option, slice_index_or}
+use Rattle.std.specs.Prelude.{◌≡◌, ℕ, ◌-◌, ◌<◌, true, List, Some, None, Option, slice_index_or}
 use Rattle.book.specs.declared.socket.Socket.{Socket}
 use Rattle.book.specs.declared.socket.Socket.TheVariants.{Empty, Filled}
 use Rattle.book.specs.declared.book.pending.Pending.{Pending}

@@ -6,11 +6,10 @@ use Rattle.theory.specs.Layers.{standing}
 use Rattle.certificates.specs.declared.rows.EqualRow.{EqualRow}
 use Rattle.certificates.specs.EqualSheets.{AcceptedEqual}
 use Rattle.book.specs.declared.socket.Change.{Change}
-use Rattle.book.specs.declared.socket.Holding.{Holding}
 use Rattle.book.specs.declared.socket.Socket.{Socket}
 use Rattle.book.specs.declared.socket.Socket.TheVariants.{Empty, Filled}
 use Rattle.book.specs.declared.fault.BookFault.{BookFault}
-use Rattle.book.specs.declared.fault.BookFault.TheVariants.{NoSocket, NoState, Occupied, Vacant, ChangeOpen, Full, NoChange, Sheet}
+use Rattle.book.specs.declared.fault.BookFault.TheVariants.{NoSocket, NoState, Occupied, Vacant, ChangeOpen, Full}
 
 pub record Plain : Type 0 where
   pub sockets : List Socket

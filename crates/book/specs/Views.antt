@@ -1,5 +1,5 @@
 -- How the book, and the answers of its calls, are read as the plain book and its words.
-use Rattle.std.specs.Prelude.{◌≡◌, ℕ, ◌+◌, Bool, true, false, List, Some, None, Ok, Err, Option, Result}
+use Rattle.std.specs.Prelude.{◌≡◌, ℕ, Bool, true, false, List, Some, None, Ok, Err, Option, Result}
 use Rattle.theory.specs.Systems.{Lts}
 use Rattle.theory.specs.Layers.{standing}
 use Rattle.certificates.specs.declared.rows.EqualRow.{EqualRow}

@@ -1,3 +1,5 @@
+#![tactic(auto)]
+
 // Tests of the change book, on a table of four states.
 #[cfg(test)]
 mod changes;

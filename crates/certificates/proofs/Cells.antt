@@ -1,19 +1,19 @@
 -- Cells that tell the rounds: the pairs at zero are closed, every other pair has its move, and such cells exist.
-use Rattle.std.proofs.Common.{◌≡◌, ℕ, zero, suc, ◌+◌, ◌-◌, ◌*◌, ◌/◌, ◌%◌, ◌<◌, ◌≤◌, Bool, true, false, not, ◌&&◌, T, eqb, ltb, ◌⊎◌, ◌↔◌, List, Some, sym, refl, ap, ◌∙◌, subst, inl, inr, arith}
+use Rattle.std.proofs.Common.{◌≡◌, ℕ, zero, suc, ◌+◌, ◌-◌, ◌*◌, ◌/◌, ◌%◌, ◌<◌, ◌≤◌, true, not, T, ltb, ◌⊎◌, List, Some, sym, ap, ◌∙◌, subst, inl, inr, arith}
 use mathlib.Core.List.{Memᴰ}
 use Rattle.std.proofs.lemmas.Nat.{div-mul-add, mod-mul-add, div_below, mod_below, div-add-mod'}
-use Rattle.std.proofs.lemmas.Bool.{cases_Bool, cases_lt, both_ways, not-true, not-false, not_from_true, not_from_false, and_from, lt-ltb, eq-eqb, eqb-true}
-use Rattle.theory.specs.Systems.{Move, Lts, Moves, Lawful}
-use Rattle.theory.specs.Bisimulations.{Answers, Bisimilar}
+use Rattle.std.proofs.lemmas.Bool.{cases_Bool, cases_lt, both_ways, not-true, not-false, and_from, lt-ltb, eq-eqb, eqb-true}
+use Rattle.theory.specs.Systems.{Move, Lts, Lawful}
+use Rattle.theory.specs.Bisimulations.{Bisimilar}
 use Rattle.refinement.specs.Cells.{unanswered, Loose}
-use Rattle.refinement.specs.Rounds.{InRange, Kept, StruckIn, Quiet, Rounds}
+use Rattle.refinement.specs.Rounds.{Kept, StruckIn, Rounds}
 use Rattle.refinement.proofs.Ranges.{lawful_in_range}
 use Rattle.refinement.proofs.Telling.{told}
-use Rattle.refinement.proofs.Rounds.{BothAnswer, both_out, both_within, kept_either, kept_down, bisimilar_kept, rounds_exact, rounds_bound, struck_exact}
+use Rattle.refinement.proofs.Rounds.{both_out, both_within, kept_either, kept_down, bisimilar_kept, rounds_exact, rounds_bound, struck_exact}
 use Rattle.refinement.proofs.Truths.{is_true}
 use Rattle.certificates.specs.declared.rows.DifferentRow.{DifferentRow}
 use Rattle.certificates.specs.DifferentSheets.{AcceptedDifferent, DifferentSheets}
-use Rattle.certificates.specs.Listings.{is_zero, before, entry, cell_entry}
+use Rattle.certificates.specs.Listings.{is_zero, before, entry}
 use Rattle.certificates.proofs.Members.{target_below}
 use Rattle.certificates.proofs.EqualListings.{number_below, some_right, Closed}
 use Rattle.certificates.proofs.Entries.{Led, entry_some}

@@ -1,10 +1,10 @@
 -- A check asks for the number of rows, then row by row, then for the asked pair: what its answer says.
-use Rattle.std.proofs.Common.{◌≡◌, ℕ, ◌+◌, ◌<◌, ◌≤◌, Bool, true, false, cond, ◌&&◌, leb, ◌⊎◌, ◌↔◌, List, [], ◌∷◌, length, get_or, Some, None, Option, sym, refl, ap, ◌∙◌, subst, inl, inr, arith}
-use Rattle.std.proofs.lemmas.Bool.{true≢false, cases_Bool, both_ways, and_parts, and_from, leb-true, le-leb}
+use Rattle.std.proofs.Common.{◌≡◌, ℕ, ◌<◌, Bool, true, false, cond, leb, ◌⊎◌, ◌↔◌, List, length, get_or, Some, None, Option, sym, ap, ◌∙◌, subst, inl, inr, arith}
+use Rattle.std.proofs.lemmas.Bool.{cases_Bool, both_ways, and_parts, and_from, leb-true, le-leb}
 use Rattle.certificates.specs.declared.fault.SheetFault.{SheetFault}
-use Rattle.certificates.specs.declared.fault.SheetFault.TheVariants.{RowCount, NoSuchState, NoSuchMove, Unanswered, NotAsked}
+use Rattle.certificates.specs.declared.fault.SheetFault.TheVariants.{RowCount, NotAsked}
 use Rattle.refinement.proofs.Telling.{off}
-use Rattle.theory.specs.Faults.{or_else, first_fault as first}
+use Rattle.theory.specs.Faults.{first_fault as first}
 use Rattle.certificates.specs.Faults.{Counted, counted, Refused, by_count, by_row, by_asked, sheet_fault}
 use Rattle.certificates.proofs.Firsts.{some_none, or_none, or_some, or_left, or_right, first_none_out, first_none_in, first_some_out, first_some_in}
 

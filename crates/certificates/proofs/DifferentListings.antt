@@ -1,21 +1,20 @@
 -- A different sheet as it is written is accepted; and an accepted one refutes every bisimulation.
-use Rattle.std.proofs.Common.{◌≡◌, ℕ, zero, suc, ◌+◌, ◌-◌, ◌*◌, ◌/◌, ◌%◌, ◌<◌, ◌≤◌, Bool, true, false, cond, not, ◌&&◌, T, ltb, ◌⊎◌, ◌↔◌, List, [], ◌∷◌, ◌++◌, map, length, get_or, Some, None, Option, sym, refl, ap, ◌∙◌, subst, inl, inr, append_assoc, arith, length-append}
+use Rattle.std.proofs.Common.{◌≡◌, ℕ, zero, suc, ◌+◌, ◌-◌, ◌*◌, ◌/◌, ◌%◌, ◌<◌, ◌≤◌, true, not, T, ltb, List, [], ◌∷◌, ◌++◌, map, length, get_or, Some, None, Option, sym, refl, ap, ◌∙◌, subst, inl, inr, append_assoc, arith, length-append}
 use mathlib.Core.List.Memᴰ
 use mathlib.Core.List.{Memᴰ}
 use Rattle.std.specs.List.{range_with_len}
 use Rattle.std.proofs.lemmas.List.FromFn.{length-range_with_len}
 use Rattle.std.proofs.lemmas.List.{length-map, get_or-map, get_or_append_left, get_or_push, length_push}
-use Rattle.std.proofs.lemmas.Nat.{div-mul-add, mod-mul-add, div_below, mod_below, div-add-mod'}
+use Rattle.std.proofs.lemmas.Nat.{div-mul-add, mod-mul-add, div_below, mod_below}
 use Rattle.std.proofs.lemmas.List.Filters.{length-filter_both}
 use Rattle.std.proofs.lemmas.Bool.{cases_lt, and_parts, ltb-true}
 use Rattle.std.proofs.lemmas.Bool.Decides.{nat_tests}
-use Rattle.theory.specs.Systems.{Move, Lts, Moves, Lawful}
+use Rattle.theory.specs.Systems.{Lts, Lawful}
 use Rattle.theory.specs.Bisimulations.{Bisimilar}
 use Rattle.certificates.specs.declared.rows.DifferentRow.{DifferentRow}
-use Rattle.certificates.specs.Faults.{Counted}
 use Rattle.certificates.specs.EqualSheets.{Exists}
 use Rattle.certificates.specs.DifferentSheets.{different_row, Earlier, move_at, Cornered, PassesDifferent, by_left, by_right, Last, AcceptedDifferent}
-use Rattle.certificates.specs.Listings.{numbers, rounds, different_numbers, before, cell_entry, DifferentListing}
+use Rattle.certificates.specs.Listings.{rounds, different_numbers, before, cell_entry, DifferentListing}
 use Rattle.certificates.proofs.Members.{mem_at, mem_place, target_below}
 use Rattle.certificates.proofs.Numbers.{rounds_in, rounds_out, rounds_front, length-rounds, within, numbers_in}
 use Rattle.certificates.proofs.EqualListings.{number_below, some_right, pairs_few}

@@ -1,19 +1,16 @@
 -- What the computed answer to a different sheet says.
-use Rattle.std.proofs.Common.{◌≡◌, ℕ, ◌+◌, ◌-◌, ◌<◌, ◌≤◌, Bool, true, false, cond, not, ◌&&◌, eqb, ltb, ◌⊎◌, ◌↔◌, List, [], ◌∷◌, map, length, get_or, take, Some, None, Option, sym, refl, ap, ◌∙◌, subst, inl, inr, arith}
+use Rattle.std.proofs.Common.{◌≡◌, ℕ, ◌-◌, ◌<◌, ◌≤◌, Bool, true, false, cond, not, ◌&&◌, eqb, ltb, ◌⊎◌, ◌↔◌, List, map, length, get_or, take, Some, None, Option, sym, refl, ap, ◌∙◌, inl, inr, arith}
 use mathlib.Core.List.Memᴰ
-use mathlib.Core.List.{Memᴰ}
 use Rattle.std.proofs.lemmas.List.{length-map, length-take-le, get_or-map, get_or-take}
-use Rattle.std.proofs.lemmas.Bool.{cases_Bool, cases_eq, both_ways, and_parts, and_from, eqb-true, eqb-false, eq-eqb, ne_eqb, ltb-true, ltb-false, lt-ltb, le-ltb, not-true, not_from_false, not_from_true, not-false}
-use Rattle.theory.specs.Systems.{Move, Lts, Moves}
+use Rattle.std.proofs.lemmas.Bool.{cases_Bool, cases_eq, both_ways, and_parts, and_from, eqb-true, eq-eqb, ne_eqb, ltb-true, ltb-false, lt-ltb, le-ltb, not-true, not_from_false, not_from_true, not-false}
+use Rattle.theory.specs.Systems.{Lts}
 use Rattle.refinement.proofs.Telling.{off}
 use Rattle.refinement.specs.Cells.{answered}
 use Rattle.certificates.specs.declared.rows.EqualRow.{EqualRow}
 use Rattle.certificates.specs.declared.rows.DifferentRow.{DifferentRow}
 use Rattle.certificates.specs.declared.fault.SheetFault.{SheetFault}
 use Rattle.certificates.specs.declared.fault.SheetFault.TheVariants.{NoSuchState, NoSuchMove, Unanswered}
-use Rattle.theory.specs.Faults.{first_fault as first}
-use Rattle.certificates.specs.Faults.{Counted, Refused}
-use Rattle.certificates.specs.EqualSheets.{Listed, listed, Exists, Answered}
+use Rattle.certificates.specs.EqualSheets.{Listed, Exists}
 use Rattle.certificates.specs.DifferentSheets.{different_row, Earlier, move_at, Cornered, Escapes, PassesDifferent, by_left, by_right, Last, AcceptedDifferent, FailsDifferent, no_state, no_side, no_left, no_right, left_escapes, right_escapes, RefusedDifferent, pair_of, earlier, named_fault, side_fault, different_row_fault, last_is, different_fault}
 use Rattle.certificates.proofs.Firsts.{some_none}
 use Rattle.certificates.proofs.Checks.{some_inj, cond_none, cond_some, cond_yes, cond_no, checked_accepted, checked_refused}

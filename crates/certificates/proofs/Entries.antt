@@ -1,17 +1,17 @@
 -- The row that is written for a pair: its move is one all of whose answers lead to ok pairs.
-use Rattle.std.proofs.Common.{◌≡◌, ℕ, ◌+◌, ◌<◌, ◌≤◌, Bool, true, false, cond, not, ◌⊎◌, ◌↔◌, List, [], ◌∷◌, map, length, get_or, Some, None, Option, sym, refl, ap, ◌∙◌, subst, inl, inr, arith}
+use Rattle.std.proofs.Common.{◌≡◌, ℕ, Bool, true, false, cond, not, ◌⊎◌, ◌↔◌, Some, None, Option, sym, refl, ap, ◌∙◌, subst, inl, inr, arith}
 use mathlib.Core.List.{Memᴰ}
 use Rattle.std.proofs.lemmas.Bool.{cases_Bool, both_ways, not-true, not_from_false}
 use Rattle.theory.specs.Systems.{Move, Lts, Moves}
 use Rattle.refinement.proofs.Telling.{off}
 use Rattle.refinement.specs.Cells.{answered}
 use Rattle.certificates.specs.declared.rows.DifferentRow.{DifferentRow}
-use Rattle.theory.specs.Faults.{or_else, first_fault as first}
+use Rattle.theory.specs.Faults.{first_fault as first}
 use Rattle.certificates.specs.DifferentSheets.{move_at, Cornered}
 use Rattle.certificates.specs.Listings.{cornered, entry_at, entry}
 use Rattle.certificates.proofs.Firsts.{some_none, or_none, or_some, first_none_out, first_some_out}
 use Rattle.certificates.proofs.Checks.{some_inj}
-use Rattle.certificates.proofs.Members.{mem_at, mem_place}
+use Rattle.certificates.proofs.Members.{mem_place}
 use Rattle.certificates.proofs.EqualTold.{answered_told}
 
 -- each answer to m by t leads to an ok pair

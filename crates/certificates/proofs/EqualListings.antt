@@ -1,17 +1,15 @@
 -- The listing of a relation that is closed under answers is an accepted equal sheet; so equal sheets are as good as bisimulations.
-use Rattle.std.proofs.Common.{◌≡◌, ℕ, ◌+◌, ◌*◌, ◌/◌, ◌%◌, ◌<◌, ◌≤◌, Bool, true, false, T, ◌⊎◌, ◌↔◌, List, map, length, get_or, sym, refl, ap, ◌∙◌, subst, inl, inr, eq-zero-or-pos, mul-le-mul, mul-zero, arith}
+use Rattle.std.proofs.Common.{◌≡◌, ℕ, ◌+◌, ◌*◌, ◌/◌, ◌%◌, ◌<◌, ◌≤◌, Bool, true, T, List, length, sym, ap, ◌∙◌, subst, inl, inr, eq-zero-or-pos, mul-le-mul, mul-zero, arith}
 use mathlib.Core.List.Memᴰ
-use mathlib.Core.List.{Memᴰ}
 use Rattle.std.proofs.lemmas.List.{length-map}
 use Rattle.std.proofs.lemmas.Nat.{mul-add-lt, div-mul-add, mod-mul-add, div_below, mod_below, div-add-mod'}
-use Rattle.theory.specs.Systems.{Move, Lts, Moves, Lawful}
-use Rattle.theory.specs.Bisimulations.{Answers, Bisimulation, Bisimilar}
+use Rattle.theory.specs.Systems.{Lts, Lawful}
+use Rattle.theory.specs.Bisimulations.{Answers, Bisimilar}
 use Rattle.refinement.proofs.Truths.{holds, is_true}
 use Rattle.certificates.specs.declared.rows.EqualRow.{EqualRow}
-use Rattle.certificates.specs.Faults.{Counted}
 use Rattle.certificates.specs.EqualSheets.{Listed, listed, AcceptedEqual, EqualSheets}
 use Rattle.certificates.specs.Listings.{numbers, pair_at, equal_listing}
-use Rattle.certificates.proofs.Members.{mem_at, mem_place, target_below}
+use Rattle.certificates.proofs.Members.{mem_place, target_below}
 use Rattle.certificates.proofs.Numbers.{numbers_in, numbers_out, length-numbers}
 use Rattle.certificates.proofs.EqualTold.{listed_told}
 

@@ -1,18 +1,17 @@
 -- What the computed answer to an equal sheet says.
-use Rattle.std.proofs.Common.{◌≡◌, ℕ, ◌+◌, ◌<◌, ◌≤◌, Bool, true, false, cond, ◌&&◌, eqb, ltb, ◌⊎◌, ◌↔◌, List, [], ◌∷◌, length, get_or, Some, None, Option, sym, refl, ap, ◌∙◌, subst, inl, inr, arith}
+use Rattle.std.proofs.Common.{◌≡◌, ℕ, ◌<◌, Bool, true, ◌&&◌, eqb, ltb, ◌↔◌, List, length, get_or, Some, None, sym, refl, ap, ◌∙◌, subst, inl, inr, arith}
 use mathlib.Core.List.Memᴰ
-use mathlib.Core.List.{Memᴰ}
-use Rattle.std.proofs.lemmas.Bool.{true≢false, cases_Bool, both_ways, and_parts, and_from, eqb-true, eq-eqb, ltb-true, lt-ltb}
+use Rattle.std.proofs.lemmas.Bool.{both_ways, and_parts, and_from, eqb-true, eq-eqb, ltb-true, lt-ltb}
 use Rattle.theory.specs.Systems.{Move, Lts, Moves}
-use Rattle.theory.specs.Bisimulations.{Answers, Bisimulation}
-use Rattle.refinement.specs.Cells.{some, answers, answered}
+use Rattle.theory.specs.Bisimulations.{Answers}
+use Rattle.refinement.specs.Cells.{answers, answered}
 use Rattle.refinement.proofs.Telling.{off, some_out, some_in}
 use Rattle.certificates.specs.declared.rows.EqualRow.{EqualRow}
 use Rattle.certificates.specs.declared.fault.SheetFault.{SheetFault}
-use Rattle.certificates.specs.declared.fault.SheetFault.TheVariants.{RowCount, NoSuchState, NoSuchMove, Unanswered, NotAsked}
-use Rattle.theory.specs.Faults.{or_else, first_fault as first}
-use Rattle.certificates.specs.Faults.{Counted, Refused}
-use Rattle.certificates.specs.EqualSheets.{Listed, listed, Answered, FirstUnanswered, Exists, PassesEqual, FailsEqual, no_state, left_open, right_open, row_at, AcceptedEqual, RefusedEqual, move_fault, answer_fault, equal_row_fault, equal_fault}
+use Rattle.certificates.specs.declared.fault.SheetFault.TheVariants.{NoSuchState, Unanswered}
+use Rattle.theory.specs.Faults.{first_fault as first}
+use Rattle.certificates.specs.Faults.{Counted}
+use Rattle.certificates.specs.EqualSheets.{Listed, listed, Answered, FirstUnanswered, Exists, PassesEqual, FailsEqual, no_state, left_open, right_open, row_at, AcceptedEqual, RefusedEqual, move_fault, equal_row_fault, equal_fault}
 use Rattle.certificates.proofs.Firsts.{some_none, or_none, or_some, or_left, or_right, first_none_out, first_none_in, first_some_out, first_some_in}
 use Rattle.certificates.proofs.Checks.{cond_none, cond_some, cond_yes, cond_no, checked_accepted, checked_refused}
 use Rattle.certificates.proofs.Members.{mem_at, mem_place}

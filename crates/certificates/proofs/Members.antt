@@ -1,5 +1,5 @@
 -- Members of a list and their places.
-use Rattle.std.proofs.Common.{◌≡◌, ℕ, zero, suc, ◌<◌, ◌⊎◌, List, [], ◌∷◌, length, get_or, sym, refl, ap, ◌∙◌, subst, inl, inr, arith}
+use Rattle.std.proofs.Common.{◌≡◌, ℕ, zero, suc, ◌<◌, List, [], ◌∷◌, length, get_or, sym, refl, arith}
 use mathlib.Core.List.{Memᴰ}
 use Rattle.theory.specs.Systems.{Lts, Moves, Lawful}
 use Rattle.theory.proofs.Laws.{move_sound}

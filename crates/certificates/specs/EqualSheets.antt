@@ -1,12 +1,12 @@
 -- An equal sheet lists the pairs of a bisimulation.
-use Rattle.std.specs.Prelude.{◌≡◌, ℕ, ◌<◌, ◌≤◌, Bool, cond, ◌&&◌, ◌⊎◌, ◌↔◌, List, length, Some, None, Option, ◌==◌, nat_lt, slice_index_or}
+use Rattle.std.specs.Prelude.{◌≡◌, ℕ, ◌<◌, Bool, cond, ◌&&◌, ◌↔◌, List, length, Some, None, Option, ◌==◌, nat_lt, slice_index_or}
 use mathlib.Core.List.{Memᴰ}
 use Rattle.theory.specs.Systems.{Move, Lts, Moves, Lawful}
 use Rattle.theory.specs.Bisimulations.{Answers, Bisimulation, Bisimilar}
 use Rattle.refinement.specs.Cells.{some, answered}
 use Rattle.certificates.specs.declared.rows.EqualRow.{EqualRow}
 use Rattle.certificates.specs.declared.fault.SheetFault.{SheetFault}
-use Rattle.certificates.specs.declared.fault.SheetFault.TheVariants.{RowCount, NoSuchState, NoSuchMove, Unanswered, NotAsked}
+use Rattle.certificates.specs.declared.fault.SheetFault.TheVariants.{NoSuchState, Unanswered}
 use Rattle.theory.specs.Faults.{or_else, first_fault as first}
 use Rattle.certificates.specs.Faults.{Counted, Refused, sheet_fault}
 

@@ -1,5 +1,7 @@
 // Sheets of evidence, which are certificates: an equal sheet lists a bisimulation, a different sheet lists pairs with a
 // transition each that only pairs listed before could answer.
+#![tactic(auto)]
+
 pub mod fault;
 pub mod rows;
 

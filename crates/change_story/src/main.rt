@@ -1,4 +1,6 @@
 // The story of a few changes: a session part and a mirror part are exchanged for others, with sheets that the comparer wrote.
+#![tactic(auto)]
+
 mod evidence;
 mod parts;
 

@@ -1,3 +1,5 @@
+#![tactic(auto)]
+
 use comparing::asking::compare_file;
 use std::io::Read;
 

@@ -1,5 +1,5 @@
 -- One more number that passes a test, or does not.
-use Rattle.std.proofs.Common.{◌≡◌, ℕ, suc, ◌+◌, Bool, true, false, cond, ap, ◌∙◌, add-one, arith}
+use Rattle.std.proofs.Common.{◌≡◌, ℕ, ◌+◌, Bool, true, false, cond, ap, ◌∙◌, add-one, arith}
 use Rattle.comparing.specs.Zeros.{passing}
 
 more : (p : ℕ → Bool) (i : ℕ) (b : Bool) → p i ≡ b → passing p (i + 1) ≡ passing p i + cond b 1 0

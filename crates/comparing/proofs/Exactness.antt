@@ -1,8 +1,6 @@
 -- What the answer says of the designs, from what it was answered for.
-use Rattle.std.proofs.Common.{◌≡◌, ℕ, ◌<◌, Bool, true, false, List, length, get_or, Some, None, Option, sym, refl, ap, ◌∙◌, subst, arith}
+use Rattle.std.proofs.Common.{◌≡◌, ℕ, List, Some, None, Option, arith}
 use Rattle.std.proofs.lemmas.Bool.{both_ways}
-use Rattle.theory.specs.Designs.{EqualDesigns}
-use Rattle.designs.specs.Nodes.{fault}
 use Rattle.designs.specs.Checks.{Passed, FirstFault}
 use Rattle.designs.specs.Checks as checks
 use Rattle.designs.specs.Refusals.{place}
@@ -10,7 +8,7 @@ use Rattle.designs.specs.declared.node.Node.{Node}
 use Rattle.designs.specs.declared.refusal.NodeRefusal.{NodeRefusal}
 use Rattle.designs.specs.declared.refusal.NodeRefusal.TheVariants.{Count, Kind, Children, Fields, Outsize}
 use Rattle.designs.proofs.Checking.{blank}
-use Rattle.comparing.specs.Comparisons.{left, right, Comparable, Answered, SaysEqual, SaysDifferent, Exact}
+use Rattle.comparing.specs.Comparisons.{Comparable, Answered, Exact}
 use Rattle.comparing.specs.declared.answer.Answer.{Answer}
 use Rattle.comparing.specs.declared.answer.Answer.TheVariants.{Equal, Different, Refused}
 use Rattle.comparing.specs.declared.answer.FileFault.{FileFault}

@@ -1,13 +1,12 @@
 -- From what a comparison decides to what is answered.
-use Rattle.std.proofs.Common.{◌≡◌, ℕ, zero, suc, ◌+◌, ◌*◌, ◌<◌, ◌≤◌, Bool, true, false, cond, ◌&&◌, eqb, ltb, leb, ◌↔◌, List, length, get_or, Some, None, Option, sym, refl, ap, ◌∙◌, subst, arith}
+use Rattle.std.proofs.Common.{◌≡◌, ℕ, ◌+◌, ◌*◌, ◌<◌, ◌≤◌, Bool, true, false, cond, ◌&&◌, ltb, leb, List, length, get_or, Some, None, Option, sym, refl, ap, ◌∙◌, subst, arith}
 use Rattle.std.proofs.lemmas.Bool.{eqb-true, eq-eqb, and_from, lt-ltb, leb-true, leb-false}
-use Rattle.std.proofs.lemmas.Bool.Decides.{nat_tests}
 use Rattle.theory.specs.Systems.{Lts}
 use Rattle.theory.specs.Layers.{standing, standing_layer}
 use Rattle.theory.specs.Designs.{Design, EqualDesigns}
 use Rattle.refinement.specs.Rounds.{StruckIn, Rounds}
 use Rattle.comparison.specs.declared.comparison.Refusal.{Refusal}
-use Rattle.comparison.specs.declared.comparison.Refusal.TheVariants.{Outsize, FewCells, OtherSizes, TooManySweeps, NoSuchState}
+use Rattle.comparison.specs.declared.comparison.Refusal.TheVariants.{Outsize, FewCells, NoSuchState}
 use Rattle.comparison.specs.declared.comparison.Verdict.{Verdict}
 use Rattle.comparison.specs.declared.comparison.Verdict.TheVariants.{Equal, Different}
 use Rattle.designs.specs.Nodes.{forms, written}

@@ -1,4 +1,6 @@
 // From the bytes of a file to the answer whether its two designs are equal.
+#![tactic(auto)]
+
 pub mod answer;
 pub mod asking;
 mod judging;

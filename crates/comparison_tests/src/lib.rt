@@ -1,3 +1,5 @@
+#![tactic(auto)]
+
 // Tests of the limits and refusals of codes, tables and comparisons.
 #[cfg(test)]
 mod codes;

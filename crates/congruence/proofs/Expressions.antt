@@ -1,7 +1,7 @@
 -- Equal states may be exchanged in every expression: by induction, an operator at a time.
 use Rattle.std.proofs.Common.{ℕ, ◌<◌, refl, inl, inr}
 use Rattle.theory.specs.Systems.{Lts}
-use Rattle.theory.specs.Designs.{Design, EqualDesigns}
+use Rattle.theory.specs.Designs.{EqualDesigns}
 use Rattle.theory.specs.Layers.{standing_layer}
 use Rattle.theory.specs.Operators
 use Rattle.theory.specs.Equivalence.{InRange}

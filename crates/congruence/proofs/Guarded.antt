@@ -1,9 +1,9 @@
 -- A prioritised bisimulation from answers that are bare transitions: that they stand follows, since code 1 always stands and so
 -- patience is the same on both sides.
-use Rattle.std.proofs.Common.{◌≡◌, ℕ, ◌%◌, Bool, T, ◌⊎◌, refl, inl, inr}
+use Rattle.std.proofs.Common.{◌≡◌, ℕ, ◌%◌, ◌⊎◌, refl, inl, inr}
 use Rattle.theory.specs.Systems.{Lts, Moves}
-use Rattle.theory.specs.Layers.{standing, Patient, Stands}
-use Rattle.theory.specs.Bisimulations.{Bisimulation, Equal}
+use Rattle.theory.specs.Layers.{standing, Patient}
+use Rattle.theory.specs.Bisimulations.{Bisimulation}
 use Rattle.theory.proofs.Standing.{stands_in, stands_out}
 
 -- the transitions by a of the state s stand

@@ -1,5 +1,5 @@
 -- Parallel keeps equality.
-use Rattle.std.proofs.Common.{◌≡◌, ℕ, zero, suc, ◌+◌, ◌*◌, ◌/◌, ◌%◌, ◌<◌, Bool, true, false, cond, not, ◌&&◌, T, eqb, ltb, leb, ◌⊎◌, List, [], ◌∷◌, ◌++◌, map, filter, sym, refl, ap, ◌∙◌, subst, subst₂, inl, inr, mul_comm, arith, eqb→eq, ltb→lt, lt→ltb, lt-ltb}
+use Rattle.std.proofs.Common.{◌≡◌, ℕ, zero, suc, ◌+◌, ◌*◌, ◌/◌, ◌%◌, ◌<◌, Bool, true, not, ◌&&◌, T, eqb, ltb, ◌⊎◌, List, [], ◌∷◌, map, filter, sym, refl, ap, ◌∙◌, subst, subst₂, inl, inr, mul_comm, arith, eqb→eq, ltb→lt, lt→ltb, lt-ltb}
 use mathlib.Core.List.Memᴰ
 use mathlib.Core.List.{Memᴰ}
 use Rattle.std.specs.List.{flat_map}
@@ -7,14 +7,13 @@ use Rattle.std.proofs.lemmas.Nat.{mul-add-lt, div-mul-add, mod-mul-add, div_belo
 use Rattle.theory.specs.Codes.{visible, meets}
 use Rattle.theory.specs.Systems.{Move, Lts, Moves}
 use Rattle.theory.specs.Operators.{placed, meeting, meetings, parallel, parallel_moves}
-use Rattle.theory.specs.Bisimulations.{Equal}
 use Rattle.theory.specs.Equivalence.{InRange}
 use Rattle.theory.proofs.Equivalence.{flipped}
 use Rattle.theory.proofs.Truth.{and_pair, pair_and}
 use Rattle.theory.proofs.Members.{kept_in, kept_out}
-use Rattle.congruence.specs.Congruences.{Within, ParallelCongruence}
+use Rattle.congruence.specs.Congruences.{ParallelCongruence}
 use Rattle.congruence.proofs.Guarded.{May, Guarded, Prioritised, guarded, answer}
-use Rattle.congruence.proofs.Placed.{Has, placed_in, placed_out, has_along}
+use Rattle.congruence.proofs.Placed.{placed_in, placed_out, has_along}
 
 -- a transition that two make together
 pub record Met (n2 : ℕ) (ms ks : List Move) (x : Move) : Type 0 where

@@ -1,8 +1,8 @@
 -- The operators that keep states: restriction, renaming, raising and lowering.
-use Rattle.std.proofs.Common.{◌≡◌, ℕ, ◌+◌, ◌*◌, ◌/◌, ◌%◌, Bool, true, false, cond, not, ◌&&◌, T, eqb, ◌⊎◌, List, map, sym, refl, ap, ◌∙◌, subst, inl, inr, arith, T_not}
+use Rattle.std.proofs.Common.{◌≡◌, ℕ, ◌+◌, ◌*◌, ◌/◌, ◌%◌, Bool, true, false, cond, not, ◌&&◌, T, eqb, map, refl, ap, ◌∙◌, subst, inl, inr, arith, T_not}
 use mathlib.Core.List.Memᴰ
 use mathlib.Core.List.{Memᴰ}
-use Rattle.theory.specs.Codes.{visible, barred, raised, lowered, renamed}
+use Rattle.theory.specs.Codes.{visible, raised, lowered, renamed}
 use Rattle.theory.specs.Systems.{Move, Lts, Moves}
 use Rattle.theory.specs.Layers.{patient, Patient}
 use Rattle.theory.specs.Operators.{recoded, recoded_moves, open_move, restrict, rename, raise, lower}

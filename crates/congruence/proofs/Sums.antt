@@ -1,13 +1,10 @@
 -- Prefix and sum keep equality.
-use Rattle.std.proofs.Common.{◌≡◌, ℕ, zero, suc, ◌+◌, ◌-◌, ◌*◌, ◌%◌, ◌<◌, ◌≤◌, Bool, true, false, cond, not, ◌&&◌, ◌||◌, T, eqb, ltb, leb, ◌⊎◌, List, [], ◌∷◌, ◌++◌, map, sym, refl, ap, ◌∙◌, subst, subst₂, inl, inr, arith, le→leb, eqb→eq, ltb→lt, lt→ltb, leb→le, ne_eqb, le-leb}
+use Rattle.std.proofs.Common.{◌≡◌, ℕ, zero, suc, ◌+◌, ◌-◌, ◌<◌, ◌≤◌, Bool, true, false, ◌&&◌, ◌||◌, T, eqb, ltb, leb, [], ◌∷◌, map, sym, refl, ap, subst, subst₂, inl, inr, arith, le→leb, eqb→eq, ltb→lt, lt→ltb, leb→le, ne_eqb, le-leb}
 use mathlib.Core.List.Memᴰ
 use mathlib.Core.List.{Memᴰ}
 use borrow.Author.Tests.{lt-leb}
-use Rattle.theory.specs.Systems.{Move, Lts, Moves}
-use Rattle.theory.specs.Layers.{Patient}
+use Rattle.theory.specs.Systems.{Move, Lts}
 use Rattle.theory.specs.Operators.{placed, prefix, prefix_moves, sum, sum_moves}
-use Rattle.theory.specs.Bisimulations.{Equal}
-use Rattle.theory.specs.Equivalence.{InRange}
 use Rattle.theory.proofs.Equivalence.{flipped}
 use Rattle.theory.proofs.Truth.{eq_T, and_pair, pair_and, or_sum, or_inl, or_inr}
 use Rattle.congruence.specs.Congruences.{Within, PrefixCongruence, SumCongruence}

@@ -1,5 +1,7 @@
 // Equality is a congruence of the seven operators, and so of every expression made of them. The functions compute nothing: each
 // carries theorems on its contract.
+#![tactic(auto)]
+
 ghost use Rattle.congruence.specs.Congruences.{PrefixCongruence, SumCongruence, ParallelCongruence, RestrictCongruence, RenameCongruence, RaiseCongruence, LowerCongruence};
 ghost use Rattle.congruence.specs.Expressions.{Exchange};
 

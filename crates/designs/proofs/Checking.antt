@@ -1,5 +1,5 @@
 -- From the nodes that were looked at to what the check answers.
-use Rattle.std.proofs.Common.{◌≡◌, ℕ, ◌+◌, ◌-◌, ◌<◌, ◌≤◌, Bool, true, false, cond, leb, ◌⊎◌, List, length, get_or, Some, None, Option, sym, refl, ap, ◌∙◌, subst, inl, inr, arith}
+use Rattle.std.proofs.Common.{◌≡◌, ℕ, ◌+◌, ◌<◌, ◌≤◌, Bool, true, false, cond, leb, List, length, get_or, Some, None, sym, refl, ap, ◌∙◌, subst, inl, inr, arith}
 use Rattle.std.proofs.lemmas.List.{get_or_default}
 use Rattle.std.proofs.lemmas.Bool.{cases_lt, and_parts, and_from, leb-true, le-leb}
 use Rattle.theory.specs.Designs.{Design}
@@ -12,10 +12,10 @@ use Rattle.designs.specs.Checks.{Faultless, FirstFault, Refused}
 use Rattle.designs.specs.declared.node.Node.{Node}
 use Rattle.designs.specs.declared.shape.Shape.{Shape}
 use Rattle.designs.specs.declared.refusal.NodeRefusal.{NodeRefusal}
-use Rattle.designs.specs.declared.refusal.NodeRefusal.TheVariants.{Count, Kind, Children, Fields, Outsize}
+use Rattle.designs.specs.declared.refusal.NodeRefusal.TheVariants.{Kind, Children, Fields}
 use Rattle.designs.proofs.DesignTables.{good, design_is}
 use Rattle.designs.proofs.Sizes.{small}
-use Rattle.designs.proofs.Readings.{form_fine, faultless_form, form_at, forms_sound, length-forms}
+use Rattle.designs.proofs.Readings.{form_at, forms_sound, length-forms}
 
 -- a fault of a node at i is one of three, and names i
 data Asked (i : ℕ) : NodeRefusal → Type 0 where

@@ -1,11 +1,10 @@
 -- The forms that nodes are read as.
-use Rattle.std.proofs.Common.{◌≡◌, ℕ, zero, suc, ◌+◌, ◌-◌, ◌<◌, ◌≤◌, Bool, true, false, cond, ◌&&◌, eqb, ltb, leb, ◌⊎◌, List, [], ◌∷◌, ◌++◌, length, get_or, take, Some, None, sym, refl, ap, ◌∙◌, subst, inl, inr, arith}
+use Rattle.std.proofs.Common.{◌≡◌, ℕ, zero, suc, ◌+◌, ◌-◌, ◌<◌, cond, ◌&&◌, leb, List, [], ◌∷◌, ◌++◌, length, get_or, take, None, refl, ap, ◌∙◌, subst, arith}
 use Rattle.std.proofs.lemmas.List.{take_more, length-take-le}
 use Rattle.std.proofs.lemmas.Bool.{cond_both, and_parts}
-use Rattle.std.proofs.lemmas.Bool.Decides.{nat_tests}
-use Rattle.designs.specs.Forms.{Form, Nil, below, lawful}
+use Rattle.designs.specs.Forms.{Nil, below, lawful}
 use Rattle.designs.specs.Tables.{Fine, Sound, design, whole, too_large}
-use Rattle.designs.specs.Nodes.{said, fault, form, forms_from, forms, countable, written}
+use Rattle.designs.specs.Nodes.{said, fault, form, forms_from, forms, written}
 use Rattle.designs.specs.declared.node.Node.{Node}
 
 pub form_fine : (i : ℕ) (x : Node) → Fine i (form i x)

@@ -1,4 +1,6 @@
 // Written designs: nodes, what they mean, and the questions that they have to pass.
+#![tactic(auto)]
+
 pub mod check;
 pub mod node;
 pub mod operation;

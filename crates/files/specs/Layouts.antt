@@ -1,6 +1,6 @@
 -- The layout of a file of two designs: the mark PCD, a version in two bytes, and then for each design a count in two bytes
 -- and so many nodes of 23 bytes. Numbers have the high byte first.
-use Rattle.std.specs.Prelude.{ℕ, ◌+◌, ◌*◌, Bool, cond, ◌&&◌, List, map, length, take, drop, ◌==◌, nat_le, slice_index}
+use Rattle.std.specs.Prelude.{ℕ, ◌+◌, ◌*◌, Bool, ◌&&◌, List, map, length, take, drop, ◌==◌, nat_le, slice_index}
 use Rattle.std.specs.List.{range_with_len}
 use Rattle.std.specs.Int.Digits.{number_from_digits}
 use Rattle.designs.specs.declared.node.Node.{Node}

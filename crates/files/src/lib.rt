@@ -1,4 +1,6 @@
 // Files of two written designs.
+#![tactic(auto)]
+
 mod fields;
 mod layout;
 pub mod reader;

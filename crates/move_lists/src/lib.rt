@@ -1,4 +1,6 @@
 // Lists of transitions made from other lists: what restriction, renaming, raising and lowering do to those of a state.
+#![tactic(auto)]
+
 pub mod change;
 pub mod keeping;
 pub mod patience;

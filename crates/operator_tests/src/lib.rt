@@ -1,3 +1,5 @@
+#![tactic(auto)]
+
 // Worked examples of the operators, proved safe and run.
 #[cfg(test)]
 mod composed;

@@ -1,5 +1,7 @@
 // The rounds that strike pairs of states, and the cells that record them: mathematics, stated in specs/. Each function here
 // only carries a theorem in its contract.
+#![tactic(auto)]
+
 ghost use Rattle.refinement.specs.Cells.{Told};
 ghost use Rattle.refinement.specs.Rounds.{RoundsBound, RoundsExact, RoundsOne, StruckExact};
 ghost use Rattle.refinement.specs.Runs.{RunsExact, RunsProgress, RunsSettle, RunsTell};

@@ -1,4 +1,6 @@
 // The operators that keep the states of a system and change its transitions: restriction, renaming, raising and lowering.
+#![tactic(auto)]
+
 pub mod lowered;
 pub mod raised;
 mod recoded;

@@ -1,14 +1,14 @@
 -- Prefix and sum.
-use Rattle.std.proofs.Common.{◌≡◌, ℕ, zero, suc, ◌+◌, ◌-◌, ◌*◌, ◌<◌, ◌≤◌, Bool, true, false, cond, eqb, leb, ◌⊎◌, List, [], ◌∷◌, ◌++◌, map, sym, refl, ap, ◌∙◌, subst, inl, inr, arith}
+use Rattle.std.proofs.Common.{◌≡◌, ℕ, zero, suc, ◌+◌, ◌-◌, ◌*◌, ◌<◌, cond, leb, [], ◌∷◌, ◌++◌, map, sym, refl, ap, ◌∙◌, subst, inl, inr, arith}
 use mathlib.Core.List.Memᴰ
 use mathlib.Core.List.{Memᴰ}
 use Rattle.std.proofs.lemmas.Bool.{cases_lt, le-leb, lt-leb, ne_eqb}
 use Rattle.theory.specs.Systems.{Move, Lts, Moves}
-use Rattle.theory.specs.Operators.{placed, nil, prefix, sum}
+use Rattle.theory.specs.Operators.{placed, prefix, sum}
 use Rattle.theory.proofs.OperatorLaws.{Fits, fits}
 use Rattle.rules.specs.Rules.{PrefixRule, prefix_acts, prefix_inside, SumRule, sum_left, sum_right, sum_inside_left, sum_inside_right}
 use Rattle.rules.specs.Derived.{Exactly, NilDerived, PrefixDerived, SumDerived}
-use Rattle.rules.proofs.Tools.{from_state, at, member_at}
+use Rattle.rules.proofs.Tools.{from_state, at}
 
 pub nil_derived : NilDerived
 nil_derived = record { derived = λ s a t m. Memᴰ.not-nil m; made = λ s a t r. absurd r }

@@ -1,8 +1,8 @@
 -- The codes taken apart: the tests of the operators' definitions and the relations of the rules say the same of lawful codes.
-use Rattle.std.proofs.Common.{◌≡◌, ℕ, ◌+◌, ◌-◌, ◌*◌, ◌/◌, ◌%◌, ◌^◌, ◌<◌, ◌≤◌, Bool, true, false, cond, not, ◌&&◌, eqb, leb, ◌⊎◌, sym, refl, ap, ◌∙◌, subst, inl, inr, arith}
+use Rattle.std.proofs.Common.{◌≡◌, ℕ, ◌+◌, ◌-◌, ◌*◌, ◌/◌, ◌%◌, ◌^◌, ◌<◌, ◌≤◌, Bool, true, false, cond, not, ◌&&◌, eqb, ◌⊎◌, sym, ap, ◌∙◌, subst, inl, inr, arith}
 use Rattle.std.proofs.lemmas.Nat.{mod_below}
 use Rattle.std.proofs.lemmas.Bool.Decides.{nat_tests}
-use Rattle.std.proofs.lemmas.Bool.{cases_lt, cases_eq, cases_Bool, le-leb, lt-leb, eq-eqb, ne_eqb, eqb-true, eqb-false}
+use Rattle.std.proofs.lemmas.Bool.{cases_lt, cases_eq, cases_Bool, le-leb, eq-eqb, ne_eqb}
 use Rattle.theory.specs.Codes.{lawful_code, visible, prioritised, co_name, meets, has_channel, barred, listed, raised, lowered, renamed}
 use Rattle.rules.specs.Actions.{Channel, code, Complementary, name_left, name_right, Holds, Passes, inner_passes, unprioritised_passes, prioritised_passes, Renames, inner_stays, renamed as moved, channel_stays, class_stays, Names, by_first, by_second, Named}
 

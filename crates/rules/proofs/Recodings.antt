@@ -1,9 +1,9 @@
 -- Restriction, renaming, raising, lowering, and what stands.
-use Rattle.std.proofs.Common.{◌≡◌, ℕ, ◌+◌, ◌*◌, ◌≤◌, Bool, true, false, cond, not, T, ◌⊎◌, List, [], ◌∷◌, map, filter, sym, refl, ap, ◌∙◌, subst, inl, inr}
+use Rattle.std.proofs.Common.{◌≡◌, ℕ, ◌≤◌, true, false, cond, T, map, sym, refl, ap, ◌∙◌, subst, inl, inr}
 use mathlib.Core.List.Memᴰ
 use mathlib.Core.List.{Memᴰ}
 use Rattle.std.proofs.lemmas.Bool.{cases_Bool}
-use Rattle.theory.specs.Codes.{lawful_code, raised, lowered, renamed}
+use Rattle.theory.specs.Codes.{raised, lowered, renamed}
 use Rattle.theory.specs.Systems.{Move, Lts, Moves}
 use Rattle.theory.specs.Layers.{patient, Patient}
 use Rattle.theory.specs.Operators.{recoded, open_move, restrict, rename, recoded_moves, raise, lower}
@@ -11,7 +11,7 @@ use Rattle.theory.proofs.Truth.{T_true, true_T}
 use Rattle.theory.proofs.Members.{kept_in, kept_out}
 use Rattle.theory.proofs.OperatorLaws.{Fits, fits}
 use Rattle.theory.proofs.Standing.{patient_in, patient_out, stands_in, stands_out}
-use Rattle.rules.specs.Actions.{Channel, code, Names, Named, Passes, Renames}
+use Rattle.rules.specs.Actions.{Channel, code}
 use Rattle.rules.specs.Rules.{RestrictionRule, restrict_passes, RenamingRule, rename_moves, RaisingRule, LoweringRule, ClassRule, class_patient, class_impatient, class_other}
 use Rattle.rules.specs.Derived.{Exactly, RestrictionDerived, RenamingDerived, RaisingDerived, LoweringDerived, StandingDerived}
 use Rattle.rules.proofs.Coded.{passes_in, passes_out, renames_in, renames_out, Turns, raised_turns, lowered_turns}

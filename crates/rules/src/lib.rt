@@ -1,5 +1,7 @@
 // The rules of the operators, and the theorem that the operators' systems have exactly the transitions that the rules derive.
 // Read specs/: Actions, Rules, Derived. The function computes nothing: it carries the theorems on its contract.
+#![tactic(auto)]
+
 ghost use Rattle.rules.specs.Derived.{NilDerived, PrefixDerived, SumDerived, ParallelDerived, RestrictionDerived, RenamingDerived, RaisingDerived, LoweringDerived, StandingDerived};
 
 pub fn transitions_are_derived() -> u8

@@ -1,5 +1,7 @@
 // Puts sheets of evidence before the checks, and has sheets written: the alternating bit protocol and its service, and two
 // small systems that are told apart at once.
+#![tactic(auto)]
+
 mod tables;
 
 use actions::pair::ChannelPair;

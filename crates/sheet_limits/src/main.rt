@@ -1,4 +1,6 @@
 // Sheets at their limits: written out of cells that no comparison left, and of the most rows and one more.
+#![tactic(auto)]
+
 mod cases;
 
 use anyhow::anyhow;

@@ -1,10 +1,10 @@
 -- Bits of words, and of lists of words.
-use Rattle.std.proofs.Common.{◌≡◌, ℕ, zero, suc, ◌+◌, ◌-◌, ◌*◌, ◌/◌, ◌%◌, ◌^◌, ◌<◌, ◌≤◌, max, Bool, true, false, ◌&&◌, ◌||◌, eqb, ltb, ◌≢◌, ◌⊎◌, List, length, get_or, set, replicate, sym, refl, ap, ◌∙◌, subst, inl, inr, arith, get_or-set_other, get_or-set_same}
+use Rattle.std.proofs.Common.{◌≡◌, ℕ, ◌+◌, ◌-◌, ◌*◌, ◌/◌, ◌%◌, ◌^◌, ◌<◌, max, Bool, true, false, ◌||◌, eqb, ◌≢◌, List, length, get_or, set, sym, refl, ap, ◌∙◌, inl, inr, arith, get_or-set_other, get_or-set_same}
 use lib.Bits.{bit_or, or_step}
-use Rattle.std.proofs.lemmas.Nat.{or_shr, pow_pos, pow-add, pow_below, mod_below, div_below, div-mul-add, mod-mul-add, div-add-mod', mul-add-lt, shl-shr}
-use Rattle.std.proofs.lemmas.Bool.{cases_order, cases_eq, eq-eqb, ne_eqb, eqb-true}
+use Rattle.std.proofs.lemmas.Nat.{or_shr, pow_pos, pow-add, pow_below, mod_below, div_below, mod-mul-add, div-add-mod', shl-shr}
+use Rattle.std.proofs.lemmas.Bool.{cases_order, cases_eq, eq-eqb, ne_eqb}
 use Rattle.std.proofs.lemmas.Bool.Decides.{nat_tests}
-use Rattle.sheets.specs.Bitmaps.{bit_at, within, pair_bit}
+use Rattle.sheets.specs.Bitmaps.{bit_at}
 
 or_odd : (a b : ℕ) → bit_or a b % 2 ≡ max (a % 2) (b % 2)
 or_odd a b =

@@ -1,19 +1,15 @@
 -- The rows of a different sheet, asked one after another while their pairs are put into a bitmap.
-use Rattle.std.proofs.Common.{◌≡◌, ℕ, ◌+◌, ◌<◌, Bool, true, false, cond, not, ◌&&◌, ◌||◌, eqb, ltb, ◌⊎◌, List, [], ◌∷◌, ◌++◌, map, length, get_or, take, drop, Some, None, Option, sym, refl, ap, ◌∙◌, subst, inl, inr}
+use Rattle.std.proofs.Common.{◌≡◌, ℕ, ◌+◌, ◌<◌, Bool, true, false, cond, not, ◌&&◌, ◌||◌, eqb, ltb, List, map, length, get_or, take, Some, None, sym, refl, ap, ◌∙◌, subst}
 use Rattle.std.specs.List.{AllByRecursion as All}
 use Rattle.std.proofs.ByRecursion.{All-get_or}
 use Rattle.std.proofs.lemmas.List.{map_more}
-use Rattle.std.proofs.lemmas.Bool.{cases_Bool, ltb-true, and_from, lt-ltb}
+use Rattle.std.proofs.lemmas.Bool.{ltb-true, and_from, lt-ltb}
 use Rattle.theory.specs.Systems.{Move, Lts, Lawful, Sound}
-use Rattle.theory.specs.Faults.{or_else, first_fault as first}
-use Rattle.refinement.specs.Cells.{answered}
-use Rattle.certificates.specs.declared.rows.EqualRow.{EqualRow}
 use Rattle.certificates.specs.declared.rows.DifferentRow.{DifferentRow}
-use Rattle.certificates.specs.declared.fault.SheetFault.{SheetFault}
 use Rattle.certificates.specs.declared.fault.SheetFault.TheVariants.{NoSuchState, NoSuchMove, Unanswered}
 use Rattle.certificates.specs.EqualSheets.{listed}
 use Rattle.certificates.specs.Listings.{cornered}
-use Rattle.certificates.specs.DifferentSheets.{different_row, pair_of, earlier, named_fault, side_fault, different_row_fault}
+use Rattle.certificates.specs.DifferentSheets.{different_row, pair_of, earlier, named_fault, different_row_fault}
 use Rattle.sheets.specs.Bitmaps.{bit_at, within, pair_bit}
 use Rattle.sheets.proofs.Rows.{answered_same}
 use Rattle.sheets.proofs.PairSets.{gathered_more}

@@ -5,13 +5,13 @@ use Rattle.std.specs.List.{AllByRecursion as All}
 use Rattle.std.proofs.lemmas.Bool.{and_from, lt-ltb}
 use Rattle.theory.specs.Systems.{Move, Lts, Lawful, Sound}
 use Rattle.theory.specs.Faults.{or_else, first_fault as first, passed}
-use Rattle.refinement.specs.Cells.{some, answers, answered}
+use Rattle.refinement.specs.Cells.{answered}
 use Rattle.certificates.specs.declared.rows.EqualRow.{EqualRow}
 use Rattle.certificates.specs.declared.fault.SheetFault.{SheetFault}
 use Rattle.certificates.specs.declared.fault.SheetFault.TheVariants.{RowCount, NoSuchState, Unanswered, NotAsked}
 use Rattle.certificates.specs.Faults.{counted, sheet_fault}
-use Rattle.certificates.specs.EqualSheets.{listed, move_fault, answer_fault, equal_row_fault}
-use Rattle.answers.specs.Views.{unanswered_number, first_unanswered}
+use Rattle.certificates.specs.EqualSheets.{listed, move_fault, equal_row_fault}
+use Rattle.answers.specs.Views.{first_unanswered}
 use Rattle.sheets.specs.Bitmaps.{within}
 
 module _ {X Y : Type 0} (b : X → Bool) (g : ℕ → Y) where

@@ -1,5 +1,7 @@
 // The checks of sheets of evidence. They are offered on a layer, allocate nothing, and go through the rows with a bitmap of
 // the pairs.
+#![tactic(auto)]
+
 mod count;
 pub mod different;
 pub mod equal;

@@ -1,5 +1,7 @@
 // Compares large tables, and prints how many sweeps settled each comparison and how many pairs of states are equal; on demand
 // also the nanoseconds that the fastest of some comparisons took. tools/speed/run sets these beside plain Rust's.
+#![tactic(auto)]
+
 mod draws;
 mod inputs;
 mod runs;

@@ -1,13 +1,13 @@
 -- Reading a store, and filling one.
-use Rattle.std.proofs.Common.{◌≡◌, ℕ, ◌+◌, ◌-◌, ◌<◌, ◌≤◌, List, [], ◌∷◌, ◌++◌, map, length, get_or, take, vec_items, sym, refl, ap, ◌∙◌, subst, arith}
+use Rattle.std.proofs.Common.{◌≡◌, ℕ, ◌+◌, ◌-◌, ◌<◌, ◌≤◌, List, [], ◌∷◌, ◌++◌, length, get_or, take, vec_items, sym, refl, ap, ◌∙◌, subst, arith}
 use Rattle.std.specs.List.{AllByRecursion as All}
 use Rattle.std.proofs.ByRecursion.{All-append}
 use Rattle.std.proofs.lemmas.List.{get_or_read, get_or-map, length-map, map_push, append_assoc, take_more, take_all}
 use Rattle.theory.specs.Systems.{Move, Lts, Sound, Lawful}
-use Rattle.theory.specs.Stores.{piece, Cut, Narrow, stored}
+use Rattle.theory.specs.Stores.{piece, Cut, Narrow}
 use Rattle.theory.proofs.Stores.{cut_none, cut_more, narrow_more, pieces_more, length-piece, read_piece, stored_here}
 use Rattle.actions.specs.declared.action.Action.{Action}
-use Rattle.actions.specs.Transitions.{move_of, moves_of, Kth}
+use Rattle.actions.specs.Transitions.{move_of, moves_of}
 use Rattle.systems.specs.declared.listed.Listed.{Listed}
 use Rattle.systems.specs.Listings.{listed}
 

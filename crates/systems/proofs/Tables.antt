@@ -1,8 +1,7 @@
 -- A table, row by row.
-use Rattle.std.proofs.Common.{◌≡◌, ℕ, ◌+◌, ◌<◌, ◌≤◌, Bool, true, false, cond, List, [], ◌∷◌, ◌++◌, map, length, get_or, take, Some, None, filter, Option, sym, refl, ap, ◌∙◌, arith}
-use Rattle.std.specs.Option.{option_map}
+use Rattle.std.proofs.Common.{◌≡◌, ℕ, ◌+◌, ◌<◌, ◌≤◌, Bool, true, false, cond, List, [], ◌∷◌, ◌++◌, map, length, get_or, take, Some, None, filter, sym, refl, ap, ◌∙◌, arith}
 use Rattle.std.proofs.lemmas.List.Elements.{filter_more}
-use Rattle.std.proofs.lemmas.List.{map-append, length-append, append_assoc, append-nil, get_or-map, length-map, take-map, take_all, map_push}
+use Rattle.std.proofs.lemmas.List.{map-append, append_assoc, append-nil, get_or-map, length-map, take_all, map_push}
 use Rattle.theory.specs.Systems.{Move}
 use Rattle.theory.specs.Tables.{Triple, is_from, transition, table_moves}
 use Rattle.actions.specs.declared.action.Action.{Action}

@@ -1,7 +1,7 @@
 -- The questions asked of a table, and the number and place of each refusal.
-use Rattle.std.specs.Prelude.{ℕ, Bool, cond, ◌&&◌, List, map, length, Some, None, Option, nat_le, nat_lt}
+use Rattle.std.specs.Prelude.{ℕ, cond, ◌&&◌, List, map, length, Some, None, Option, nat_le, nat_lt}
 use Rattle.theory.specs.Codes.{lawful_code}
-use Rattle.theory.specs.Faults.{first_fault, or_else}
+use Rattle.theory.specs.Faults.{first_fault}
 use Rattle.theory.specs.Tables.{Triple}
 use Rattle.systems.specs.declared.rows.Row.{Row}
 use Rattle.systems.specs.declared.rows.RowRefusal.{RowRefusal}

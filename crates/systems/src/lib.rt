@@ -1,4 +1,6 @@
 // Systems: the interface, the store that answers each question by a read, and tables.
+#![tactic(auto)]
+
 pub mod listed;
 pub mod lists;
 pub mod rows;

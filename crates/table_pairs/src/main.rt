@@ -1,4 +1,6 @@
 // Compares pairs of tables and prints what was found: the verdict, the round that told the two apart, the sweeps made.
+#![tactic(auto)]
+
 mod pairs;
 
 use anyhow::anyhow;

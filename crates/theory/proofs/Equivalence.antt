@@ -1,7 +1,7 @@
 -- Bisimilarity of any systems is an equivalence, and so equality under a layer is one.
-use Rattle.std.proofs.Common.{◌≡◌, ℕ, ◌<◌, Bool, ◌&&◌, T, eqb, sym, subst, eqb→eq}
+use Rattle.std.proofs.Common.{ℕ, ◌<◌, Bool, ◌&&◌, T, eqb, sym, subst, eqb→eq}
 use lib.Dec.{eqb_refl}
-use Rattle.theory.specs.Systems.{Lts, Moves, Sound, Lawful}
+use Rattle.theory.specs.Systems.{Lts, Moves, Sound}
 use Rattle.theory.specs.Layers.{Layering, keeps_move, shown}
 use Rattle.theory.specs.Bisimulations.{Answers, Bisimulation, Bisimilar}
 use Rattle.theory.specs.Equivalence.{InRange, LawfulInRange, Reflexive, Symmetric, Transitive}

@@ -1,10 +1,10 @@
 -- What stands, as a filter and by the two clauses.
-use Rattle.std.proofs.Common.{◌≡◌, ℕ, ◌%◌, not, ◌&&◌, ◌||◌, T, eqb, ◌⊎◌, List, [], ◌∷◌, refl, subst, inl, inr, eqb→eq, T_not}
+use Rattle.std.proofs.Common.{ℕ, ◌%◌, not, T, eqb, List, [], ◌∷◌, refl, subst, inl, inr, eqb→eq, T_not}
 use mathlib.Core.List.{Memᴰ}
 use lib.Dec.{not_T}
 use Rattle.theory.specs.Codes.{prioritised}
 use Rattle.theory.specs.Systems.{Move, Lts, Moves}
-use Rattle.theory.specs.Layers.{keeps_move, patient, standing_layer, standing, Patient, Stands}
+use Rattle.theory.specs.Layers.{keeps_move, patient, standing_layer, standing, Stands}
 use Rattle.theory.specs.Standing.{StandingClauses}
 use Rattle.theory.proofs.Truth.{eq_T, and_pair, pair_and, or_sum, or_inl, or_inr}
 use Rattle.theory.proofs.Members.{kept_in, kept_out}

@@ -1,5 +1,5 @@
 -- Bisimulation, and equality of states: some prioritised bisimulation holds both.
-use Rattle.std.specs.Prelude.{ℕ, ◌<◌, Bool, T}
+use Rattle.std.specs.Prelude.{ℕ, Bool, T}
 use Rattle.theory.specs.Systems.{Lts, Moves}
 use Rattle.theory.specs.Layers.{Layering, shown, standing_layer}
 

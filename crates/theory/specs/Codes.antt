@@ -1,6 +1,6 @@
 -- The codes of actions. Code 0 is the inner action and code 1 the prioritised inner action. A visible action has the
 -- code 4 * channel + 2 * p + u, with a channel from 1 to 60, p = 1 for a co-name, u = 1 for a prioritised action.
-use Rattle.std.specs.Prelude.{ℕ, ◌+◌, ◌-◌, ◌*◌, ◌/◌, ◌%◌, ◌^◌, Bool, true, false, cond, not, ◌&&◌, ◌||◌, ◌==◌, nat_le, nat_lt}
+use Rattle.std.specs.Prelude.{ℕ, ◌+◌, ◌-◌, ◌*◌, ◌/◌, ◌%◌, ◌^◌, Bool, cond, not, ◌&&◌, ◌||◌, ◌==◌, nat_le, nat_lt}
 
 abbrev pub lawful_code : ℕ → Bool
 lawful_code a = nat_le a 1 || (nat_le 4 a && nat_le a 243)

@@ -1,5 +1,7 @@
 // The mathematics that the contracts of the other crates are stated in. Read specs/. The functions here compute nothing: each
 // carries theorems on its contract.
+#![tactic(auto)]
+
 ghost use Rattle.theory.specs.Equivalence.{LawfulInRange, Reflexive, Symmetric, Transitive};
 ghost use Rattle.theory.specs.Standing.{StandingClauses};
 

@@ -1,4 +1,6 @@
 // Runs worked examples and prints what was found: a choice made early, tables at their limits, and the alternating bit protocol.
+#![tactic(auto)]
+
 mod limits;
 mod protocols;
 

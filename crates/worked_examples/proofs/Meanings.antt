@@ -11,7 +11,7 @@ use Rattle.terms.specs.Terms.{Term, Nil, Prefix, Sum, Parallel, Restrict, Rename
 use Rattle.terms.specs.StateTerms.{prefix_term, sum_term, parallel_term}
 use Rattle.terms.proofs.Told.{Told, nil_told, prefix_told, sum_told, parallel_told, restrict_told, rename_told, raise_told, lower_told}
 use Rattle.terms.proofs.StateTold.{steps_from}
-use Rattle.worked_examples.specs.Meanings.{meaning, lawful, ByTheRules, MeaningsFollowRules}
+use Rattle.worked_examples.specs.Meanings.{meaning, lawful, MeaningsFollowRules}
 
 -- its start is a state, and transitions lead from states to states
 pub meaning_within : (p : Term) → Within (meaning p).sys (meaning p).start

@@ -1,5 +1,7 @@
 // The worked examples of designs with priorities, as theorems. Read specs/: Examples, Claims, Meanings. The function computes
 // nothing but their number: it carries the theorems on its contract.
+#![tactic(auto)]
+
 ghost use Rattle.std.specs.Prelude.{◌≡◌, length};
 ghost use Rattle.std.specs.List.{flat_map, AllByRecursion as All};
 ghost use Rattle.worked_examples.specs.Claims.{Holds, terms_of};

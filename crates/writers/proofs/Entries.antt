@@ -1,5 +1,5 @@
 -- The row of a pair from the numbers that the two searches find, and the pairs of a sheet that have none.
-use Rattle.std.proofs.Common.{◌≡◌, ℕ, zero, suc, ◌+◌, ◌-◌, ◌*◌, ◌/◌, ◌%◌, ◌<◌, ◌≤◌, Bool, true, false, cond, not, ◌&&◌, ◌||◌, eqb, ltb, ◌⊎◌, List, [], ◌∷◌, ◌++◌, length, Some, None, Option, sym, refl, ap, ◌∙◌, subst, inl, inr, arith}
+use Rattle.std.proofs.Common.{◌≡◌, ℕ, suc, ◌+◌, ◌-◌, ◌*◌, ◌/◌, ◌%◌, ◌<◌, Bool, true, false, cond, not, ◌&&◌, ◌||◌, eqb, ltb, List, [], ◌∷◌, Some, None, Option, sym, refl, ap, ◌∙◌, subst, inl, inr, arith}
 use mathlib.Core.List.Memᴰ
 use mathlib.Core.List.{Memᴰ}
 use Rattle.std.specs.Option.{option_map}
@@ -11,7 +11,7 @@ use Rattle.refinement.proofs.Telling.{off, some_in, some_out}
 use Rattle.refinement.proofs.Truths.{any_below_in, any_below_out}
 use Rattle.answers.specs.Views.{unanswered_number, first_unanswered}
 use Rattle.certificates.specs.declared.rows.DifferentRow.{DifferentRow}
-use Rattle.certificates.specs.Listings.{numbers, rounds, different_numbers, before, entry_at, entry, cell_entry}
+use Rattle.certificates.specs.Listings.{rounds, different_numbers, before, entry_at, entry, cell_entry}
 use Rattle.certificates.proofs.Numbers.{rounds_in, rounds_out}
 use Rattle.certificates.proofs.DifferentListings.{Backed}
 use Rattle.writers.specs.Writes.{cell_of, is_none, lower, named, lacks_move}

@@ -1,9 +1,8 @@
 -- What the writers write over a settled run is accepted.
-use Rattle.std.proofs.Common.{◌≡◌, ℕ, zero, suc, ◌+◌, ◌*◌, ◌<◌, ◌≤◌, Bool, true, false, cond, ◌&&◌, eqb, ltb, leb, ◌⊎◌, ◌↔◌, List, map, length, get_or, take, drop, Some, None, Ok, Err, Option, Result, sym, refl, ap, ◌∙◌, subst, inl, inr, arith}
+use Rattle.std.proofs.Common.{◌≡◌, ℕ, ◌+◌, ◌*◌, ◌<◌, ◌≤◌, Bool, false, cond, ◌&&◌, eqb, ltb, leb, ◌⊎◌, List, length, take, Some, None, Ok, Err, Option, Result, sym, refl, ap, ◌∙◌, subst, inl, inr, arith}
 use Rattle.std.proofs.lemmas.Bool.{cases_lt, le-leb, leb-true, ltb-true, and_parts, eq-eqb}
 use Rattle.theory.specs.Systems.{Lts, Lawful}
 use Rattle.theory.specs.Bisimulations.{Bisimilar}
-use Rattle.refinement.specs.Rounds.{StruckIn}
 use Rattle.refinement.specs.Runs.{Run, SettledByRun, VerdictLaw}
 use Rattle.refinement.proofs.Ranges.{lawful_in_range}
 use Rattle.refinement.proofs.Rounds.{struck_exact}
@@ -17,7 +16,6 @@ use Rattle.comparison.specs.declared.comparison.Verdict.TheVariants.{Equal, Diff
 use Rattle.certificates.specs.declared.rows.EqualRow.{EqualRow}
 use Rattle.certificates.specs.declared.rows.DifferentRow.{DifferentRow}
 use Rattle.certificates.specs.EqualSheets.{AcceptedEqual}
-use Rattle.certificates.specs.DifferentSheets.{AcceptedDifferent}
 use Rattle.certificates.specs.Listings.{is_zero, equal_listing, different_numbers, DifferentListing}
 use Rattle.certificates.proofs.Checks.{cond_none}
 use Rattle.certificates.proofs.EqualListings.{listing_accepted, number_below}

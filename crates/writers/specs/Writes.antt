@@ -12,7 +12,7 @@ use Rattle.certificates.specs.declared.rows.EqualRow.{EqualRow}
 use Rattle.certificates.specs.declared.rows.DifferentRow.{DifferentRow}
 use Rattle.certificates.specs.EqualSheets.{AcceptedEqual}
 use Rattle.certificates.specs.DifferentSheets.{AcceptedDifferent}
-use Rattle.certificates.specs.Listings.{is_zero, equal_listing, different_numbers, cell_entry, DifferentListing}
+use Rattle.certificates.specs.Listings.{is_zero, equal_listing, different_numbers, cell_entry}
 use Rattle.writers.specs.declared.refusal.WriteRefusal.{WriteRefusal}
 use Rattle.writers.specs.declared.refusal.WriteRefusal.TheVariants.{Comparison, OtherVerdict, NoMove, FewRows}
 

@@ -1,4 +1,4 @@
-use Rattle.std.proofs.Common.{◌≡◌, ℕ, ◌*◌, refl, ◌∙◌, ap₂, arith}
+use Rattle.std.proofs.Common.{ℕ, ◌*◌, ◌∙◌, ap₂}
 use Rattle.design_moves.specs.WrittenDesigns.{meant}
 use Rattle.comparing.specs.Zeros.{passing, is_zero}
 use Rattle.comparing.proofs.Verdicts.{settles_equal, settles_different, settles_few}

@@ -1,6 +1,6 @@
-use Rattle.std.proofs.Common.{◌≡◌, ℕ, Bool, not, ◌&&◌, filter, sym, ◌∙◌, arith}
+use Rattle.std.proofs.Common.{ℕ, Bool, not, ◌&&◌, filter, sym, ◌∙◌, arith}
 use Rattle.theory.specs.Layers.{keeps_move}
-use Rattle.refinement.specs.Cells.{some, answered, on_grid}
+use Rattle.refinement.specs.Cells.{answered, on_grid}
 use Rattle.actions.specs.Transitions.{move_of}
 use Rattle.theory.proofs.Laws.{target_below}
 use Rattle.refinement.proofs.Somes.{some_hit, some_miss, some_end, some_kept}

@@ -1,4 +1,4 @@
-use Rattle.std.proofs.Common.{◌+◌, ◌<◌, length, get_or, arith}
+use Rattle.std.proofs.Common.{◌+◌, ◌<◌, get_or, arith}
 use Rattle.files.proofs.Bytes.{next_bound, next_fits, next_value}
 use Rattle.files.proofs.fields.field.Goals as goal
 

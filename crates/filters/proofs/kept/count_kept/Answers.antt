@@ -1,4 +1,4 @@
-use Rattle.std.proofs.Common.{◌≡◌, sym, arith}
+use Rattle.std.proofs.Common.{sym, arith}
 use Rattle.theory.proofs.Scans.{scan_yes, scan_no, scan_all}
 use Rattle.actions.specs.Transitions.{move_of}
 use Rattle.filters.specs.Kept.{by_code}

@@ -1,4 +1,4 @@
-use Rattle.std.proofs.Common.{◌≡◌, Some, None, sym, ◌∙◌}
+use Rattle.std.proofs.Common.{Some, None}
 use Rattle.theory.specs.Layers.{shown}
 use Rattle.certificates.specs.DifferentSheets.{different_fault, AcceptedDifferent, RefusedDifferent}
 use Rattle.certificates.proofs.DifferentTold.{different_accepted, different_refused}

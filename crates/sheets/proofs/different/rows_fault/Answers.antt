@@ -1,4 +1,4 @@
-use Rattle.std.proofs.Common.{◌≡◌, ℕ, sym, refl, ◌∙◌}
+use Rattle.std.proofs.Common.{ℕ, sym, refl, ◌∙◌}
 use Rattle.theory.specs.Layers.{shown}
 use Rattle.theory.proofs.Laws.{shown_lawful}
 use Rattle.certificates.specs.declared.rows.DifferentRow.{DifferentRow}

@@ -1,4 +1,4 @@
-use Rattle.std.proofs.Common.{◌≡◌, Some, None, sym, ◌∙◌}
+use Rattle.std.proofs.Common.{Some, None}
 use Rattle.theory.specs.Layers.{shown}
 use Rattle.certificates.specs.EqualSheets.{equal_fault, AcceptedEqual, RefusedEqual}
 use Rattle.certificates.proofs.EqualTold.{equal_accepted, equal_refused}

@@ -1,8 +1,7 @@
-use Rattle.std.proofs.Common.{◌≡◌, true, false, length, Some, None, Option, sym, ◌∙◌}
+use Rattle.std.proofs.Common.{true, false, length, sym, ◌∙◌}
 use Rattle.theory.specs.Layers.{shown}
 use Rattle.theory.specs.Faults.{first_fault}
 use Rattle.theory.proofs.Laws.{shown_lawful}
-use Rattle.certificates.specs.declared.fault.SheetFault.{SheetFault}
 use Rattle.certificates.specs.EqualSheets.{listed, equal_row_fault}
 use Rattle.sheets.specs.Bitmaps.{pair_bit}
 use Rattle.sheets.proofs.Rows.{fault_by_row, fault_by_asked, gathered_fault}

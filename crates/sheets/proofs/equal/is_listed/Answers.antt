@@ -1,4 +1,4 @@
-use Rattle.std.proofs.Common.{◌≡◌, ◌&&◌, eqb, sym, refl, ◌∙◌}
+use Rattle.std.proofs.Common.{◌&&◌, eqb, sym, refl, ◌∙◌}
 use Rattle.certificates.specs.declared.rows.EqualRow.{EqualRow}
 use Rattle.certificates.specs.EqualSheets.{row_at}
 use Rattle.refinement.proofs.Somes.{some_hit, some_miss, some_end}

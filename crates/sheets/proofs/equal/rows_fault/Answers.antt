@@ -1,4 +1,4 @@
-use Rattle.std.proofs.Common.{◌≡◌, sym, refl, ◌∙◌}
+use Rattle.std.proofs.Common.{sym, refl, ◌∙◌}
 use Rattle.theory.specs.Layers.{shown}
 use Rattle.certificates.specs.EqualSheets.{row_at, equal_row_fault}
 use Rattle.certificates.proofs.Firsts.{first_hit, first_miss, first_end}

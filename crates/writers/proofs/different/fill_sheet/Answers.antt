@@ -1,4 +1,4 @@
-use Rattle.std.proofs.Common.{◌≡◌, ◌+◌, ◌-◌, ◌*◌, eqb, ltb, length, sym, refl, ◌∙◌, arith}
+use Rattle.std.proofs.Common.{◌-◌, ◌*◌, eqb, ltb, sym, refl, ◌∙◌, arith}
 use Rattle.std.proofs.lemmas.List.{length_push}
 use Rattle.std.proofs.lemmas.Bool.{and_from, or_left, or_right, lt-ltb, eq-eqb}
 use Rattle.theory.specs.Layers.{shown}

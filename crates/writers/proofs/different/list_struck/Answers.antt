@@ -1,6 +1,5 @@
-use Rattle.std.proofs.Common.{◌≡◌, ◌+◌, ◌*◌, ◌<◌, ◌≤◌, cond, leb, length, Some, None, sym, refl, ap, ◌∙◌, arith}
+use Rattle.std.proofs.Common.{◌*◌, cond, leb, length, Some, None, sym, refl, ap, ◌∙◌, arith}
 use Rattle.std.proofs.lemmas.Bool.{le-leb, lt-leb}
-use Rattle.theory.specs.Layers.{shown}
 use Rattle.certificates.specs.Listings.{numbers, different_numbers}
 use Rattle.writers.specs.declared.refusal.WriteRefusal.TheVariants.{NoMove, FewRows}
 use Rattle.writers.specs.Writes.{cell_of, lower}

@@ -1,4 +1,4 @@
-use Rattle.std.proofs.Common.{◌≡◌, ◌+◌, ◌*◌, ◌<◌, length, Ok, sym, ap, ◌∙◌, subst}
+use Rattle.std.proofs.Common.{◌+◌, ◌*◌, ◌<◌, length, Ok, sym, ap, ◌∙◌, subst}
 use Rattle.theory.specs.Layers.{shown}
 use Rattle.theory.proofs.Laws.{shown_lawful}
 use Rattle.comparison.specs.Comparisons.{verdict_answer}

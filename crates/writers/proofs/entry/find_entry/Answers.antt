@@ -1,4 +1,4 @@
-use Rattle.std.proofs.Common.{◌≡◌, Some, None, sym, refl, ◌∙◌}
+use Rattle.std.proofs.Common.{Some, None}
 use Rattle.theory.specs.Layers.{shown}
 use Rattle.writers.proofs.Entries.{found_left, found_right}
 use Rattle.writers.proofs.entry.find_entry.Goals as goal

@@ -1,4 +1,4 @@
-use Rattle.std.proofs.Common.{◌≡◌, ℕ, ◌*◌, ◌≤◌, Bool, ◌&&◌, sym, ap, ◌∙◌, arith}
+use Rattle.std.proofs.Common.{◌≡◌, ℕ, ◌*◌, Bool, ◌&&◌, sym, ap, ◌∙◌, arith}
 use Rattle.theory.specs.Layers.{shown}
 use Rattle.refinement.specs.Cells.{any_below}
 use Rattle.certificates.specs.Listings.{cell_entry}

@@ -1,8 +1,7 @@
-use Rattle.std.proofs.Common.{◌≡◌, length, Ok, sym, ap, ◌∙◌}
+use Rattle.std.proofs.Common.{length, Ok, sym, ap, ◌∙◌}
 use Rattle.theory.specs.Layers.{shown}
 use Rattle.theory.proofs.Laws.{shown_lawful}
 use Rattle.comparison.specs.Comparisons.{verdict_answer}
-use Rattle.comparison.specs.declared.comparison.Verdict.TheVariants.{Equal}
 use Rattle.certificates.specs.Listings.{is_zero}
 use Rattle.writers.specs.Writes.{cell_of}
 use Rattle.writers.proofs.Laws.{equal_law, equal_found}

@@ -1,4 +1,4 @@
-use Rattle.std.proofs.Common.{◌≡◌, ◌+◌, ◌*◌, eqb, length, get_or, Ok, sym, ap, ◌∙◌, arith}
+use Rattle.std.proofs.Common.{◌≡◌, ◌+◌, ◌*◌, eqb, length, get_or, Ok, ap, ◌∙◌, arith}
 use Rattle.theory.specs.Layers.{shown}
 use Rattle.refinement.proofs.Grids.{cell_below}
 use Rattle.refinement.proofs.Ranges.{shown_in_range}

@@ -6,7 +6,6 @@ use Rattle.designs.specs.Shapes.{Shaped}
 use Rattle.designs.specs.Nodes.{forms}
 use Rattle.designs.specs.Operations.{form_of}
 use Rattle.designs.specs.declared.shape.Shape.{Shape}
-use Rattle.designs.specs.declared.operation.Operation.{Operation}
 use Rattle.designs.proofs.Readings.{form_fine, forms_sound, forms_more}
 use Rattle.designs.proofs.Checking.{all_small, shape_at, shaped_more, blank}
 use Rattle.designs.proofs.outline.Outline.of.Goals as goal

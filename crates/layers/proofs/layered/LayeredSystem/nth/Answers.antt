@@ -1,4 +1,4 @@
-use Rattle.std.proofs.Common.{ap, ◌∙◌, subst}
+use Rattle.std.proofs.Common.{◌∙◌, subst}
 use Rattle.filters.specs.Kept.{kept}
 use Rattle.actions.specs.Transitions.{Kth}
 use Rattle.layers.proofs.layered.LayeredSystem.nth.Goals as goal

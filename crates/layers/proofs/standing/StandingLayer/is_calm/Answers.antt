@@ -1,4 +1,4 @@
-use Rattle.std.proofs.Common.{◌≡◌, ◌<◌, ◌≤◌, sym, ◌∙◌, arith}
+use Rattle.std.proofs.Common.{sym, ◌∙◌, arith}
 use Rattle.actions.specs.Transitions.{move_of}
 use Rattle.theory.proofs.Patients.{patient_no, patient_yes, patient_end}
 use Rattle.layers.proofs.standing.StandingLayer.is_calm.Goals as goal

@@ -1,12 +1,12 @@
-use Rattle.std.proofs.Common.{◌≡◌, length, vec_items, sym, ap, ◌∙◌, subst, arith}
+use Rattle.std.proofs.Common.{◌≡◌, length, vec_items, sym, ◌∙◌, subst, arith}
 use Rattle.std.specs.List.{AllByRecursion as All}
 use Rattle.std.proofs.lemmas.List.{length-map}
-use Rattle.theory.specs.Systems.{Move, Sound}
+use Rattle.theory.specs.Systems.{Sound}
 use Rattle.theory.specs.Stores.{Narrow}
 use Rattle.theory.proofs.Stores.{stored_is}
 use Rattle.actions.specs.Transitions.{move_of, moves_of}
 use Rattle.actions.proofs.Transitions.{inside_sound}
-use Rattle.systems.proofs.Listings.{Filled, filled_none, filled_more, filled_to}
+use Rattle.systems.proofs.Listings.{filled_more, filled_to}
 use Rattle.systems.proofs.listed.Listed.of.Goals as goal
 
 pub loop-s-preserved : goal.loop-s-preserved

@@ -1,4 +1,3 @@
-use Rattle.std.proofs.Common.{◌≡◌, ap, ◌∙◌}
 use Rattle.std.proofs.lemmas.Result.{err_from_is_err_and}
 use Rattle.theory.proofs.Faults.{refused_here, passed_here, passed_all}
 use Rattle.systems.specs.Rows.{row_fault}

@@ -1,4 +1,4 @@
-use Rattle.std.proofs.Common.{◌≡◌, ◌+◌, ◌*◌, ◌&&◌, ltb, sym, ap}
+use Rattle.std.proofs.Common.{◌+◌, ◌*◌, ◌&&◌, ltb, sym, ap}
 use Rattle.std.proofs.lemmas.List.{get_or_past}
 use Rattle.writers.proofs.lower.LowerHeld.has.Goals as goal
 

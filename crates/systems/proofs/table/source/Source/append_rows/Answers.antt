@@ -1,4 +1,4 @@
-use Rattle.std.proofs.Common.{◌≡◌, ◌++◌, vec_items, ap, ◌∙◌}
+use Rattle.std.proofs.Common.{◌++◌, vec_items, ap, ◌∙◌}
 use Rattle.actions.specs.Transitions.{moves_of}
 use Rattle.systems.proofs.Tables.{appended_hit, appended_miss, moves_all}
 use Rattle.systems.proofs.table.source.Source.append_rows.Goals as goal

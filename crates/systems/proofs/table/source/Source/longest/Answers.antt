@@ -1,4 +1,4 @@
-use Rattle.std.proofs.Common.{◌≡◌, max, ◌∙◌, ap₂, add-one}
+use Rattle.std.proofs.Common.{max, ◌∙◌, ap₂, add-one}
 use Rattle.systems.proofs.table.source.Source.longest.Goals as goal
 
 pub loop-s-preserved : goal.loop-s-preserved
