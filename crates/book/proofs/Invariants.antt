@@ -1,7 +1,7 @@
 -- Every run from a blank book keeps in each socket a first and a current part that are equal states, and, where a change is
 -- proved, a state proposed that is equal to the current one.
 use Rattle.std.proofs.Common.{◌≡◌, ℕ, zero, suc, ◌+◌, ◌-◌, ◌<◌, Bool, true, false, cond, eqb, ltb, List, [], ◌∷◌, get_or, replicate, Some, None, Option, sym, refl, subst, arith}
-use Rattle.std.specs.List.{AllByRecursion as All}
+use Rattle.std.specs.List.{AllByRecursion}
 use Rattle.std.proofs.ByRecursion.{All-set}
 use Rattle.std.proofs.lemmas.Bool.{ltb-true}
 use Rattle.theory.specs.Systems.{Lts, Lawful}
@@ -31,9 +31,9 @@ module _ (M : Lts) where
   Kept (Filled h) = (h.first < M.n) × (h.current < M.n) × Equal M M h.first h.current × KeptChange h.current h.change
 
   abbrev AllKept : Plain → Type 0
-  AllKept b = All Kept b.sockets
+  AllKept b = AllByRecursion Kept b.sockets
 
-  all_at : (xs : List Socket) (i : ℕ) → All Kept xs → Kept (get_or xs i Empty)
+  all_at : (xs : List Socket) (i : ℕ) → AllByRecursion Kept xs → Kept (get_or xs i Empty)
   all_at [] i h = tt
   all_at (x ∷ xs) zero h = h.0
   all_at (x ∷ xs) (suc i) h = all_at xs i h.1
@@ -45,7 +45,7 @@ module _ (M : Lts) where
       go true = all_at b.sockets (i - 1) h
       go false = tt
 
-  written : (xs : List Socket) (i : ℕ) (x : Socket) → All Kept xs → Kept x → All Kept (with_socket xs i x)
+  written : (xs : List Socket) (i : ℕ) (x : Socket) → AllByRecursion Kept xs → Kept x → AllByRecursion Kept (with_socket xs i x)
   written xs i x h k = All-set Kept xs (i - 1) x k h
 
   -- a call that is not refused has passed its questions
@@ -136,7 +136,7 @@ module _ (M : Lts) where
     kept_designs : (b : Plain) → AllKept b → KeepsDesigns M b
     kept_designs b h e f = exchange M (lawful_in_range M law) (current_part b) (first_part b) e (λ i u. filled_parts (at b i) (f i u) (kept_at b i h))
 
-all_empty : (M : Lts) (n : ℕ) → All (Kept M) (replicate n Empty)
+all_empty : (M : Lts) (n : ℕ) → AllByRecursion (Kept M) (replicate n Empty)
 all_empty M zero = tt
 all_empty M (suc n) = (tt, all_empty M n)
 

@@ -1,6 +1,6 @@
 -- The rows of a different sheet, asked one after another while their pairs are put into a bitmap.
 use Rattle.std.proofs.Common.{◌≡◌, ℕ, ◌+◌, ◌<◌, Bool, true, false, cond, not, ◌&&◌, ◌||◌, eqb, ltb, List, map, length, get_or, take, Some, None, sym, refl, ap, ◌∙◌, subst}
-use Rattle.std.specs.List.{AllByRecursion as All}
+use Rattle.std.specs.List.{AllByRecursion}
 use Rattle.std.proofs.ByRecursion.{All-get_or}
 use Rattle.std.proofs.lemmas.List.{map_more}
 use Rattle.std.proofs.lemmas.Bool.{ltb-true, and_from, lt-ltb}
@@ -14,7 +14,7 @@ use Rattle.sheets.specs.Bitmaps.{bit_at, within, pair_bit}
 use Rattle.sheets.proofs.Rows.{answered_same}
 use Rattle.sheets.proofs.PairSets.{gathered_more}
 
-named_same : (n1 n2 : ℕ) (ok ko : ℕ → ℕ → Bool) (i side k : ℕ) (ms ks : List Move) → All (Sound n1) ms → All (Sound n2) ks → ((x y : ℕ) → x < n1 → y < n2 → ok x y ≡ ko x y)
+named_same : (n1 n2 : ℕ) (ok ko : ℕ → ℕ → Bool) (i side k : ℕ) (ms ks : List Move) → AllByRecursion (Sound n1) ms → AllByRecursion (Sound n2) ks → ((x y : ℕ) → x < n1 → y < n2 → ok x y ≡ ko x y)
     → named_fault ok ms ks i side k ≡ named_fault ko ms ks i side k
 named_same n1 n2 ok ko i side k ms ks a b h = go (ltb k (length ms)) refl
   where

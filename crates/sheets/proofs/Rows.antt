@@ -1,7 +1,7 @@
 -- The first fault of the rows does not depend on pairs of states that do not exist; and a number that a search finds is a fault.
 use Rattle.std.proofs.Common.{◌≡◌, ℕ, ◌+◌, ◌<◌, Bool, true, false, cond, ◌&&◌, ◌||◌, eqb, ltb, ◌↔◌, List, [], ◌∷◌, Some, None, Ok, Err, Option, sym, refl, ap, ◌∙◌, subst, arith}
 use Rattle.std.specs.Option.{option_map}
-use Rattle.std.specs.List.{AllByRecursion as All}
+use Rattle.std.specs.List.{AllByRecursion}
 use Rattle.std.proofs.lemmas.Bool.{and_from, lt-ltb}
 use Rattle.theory.specs.Systems.{Move, Lts, Lawful, Sound}
 use Rattle.theory.specs.Faults.{or_else, first_fault as first, passed}
@@ -29,13 +29,13 @@ pub numbered : (ok : ℕ → ℕ → Bool) (ms ks : List Move) (i side : ℕ) (o
 numbered ok ms ks i side o e = ap (option_map (Unanswered i side)) e ∙ sym (first_mapped (answered ok ks) (Unanswered i side) 0 ms)
 
 -- relations that agree on states
-pub answered_same : (n : ℕ) (ok ko : ℕ → ℕ → Bool) (m : Move) (ks : List Move) → All (Sound n) ks → ((y : ℕ) → y < n → ok m.1 y ≡ ko m.1 y) → answered ok ks m ≡ answered ko ks m
+pub answered_same : (n : ℕ) (ok ko : ℕ → ℕ → Bool) (m : Move) (ks : List Move) → AllByRecursion (Sound n) ks → ((y : ℕ) → y < n → ok m.1 y ≡ ko m.1 y) → answered ok ks m ≡ answered ko ks m
 answered_same n ok ko m [] a h = refl
 answered_same n ok ko m (k ∷ ks) a h =
     ap (λ v. (eqb m.0 k.0 && v) || answered ok ks m) (h k.1 a.0.1)
     ∙ ap (λ v. (eqb m.0 k.0 && ko m.1 k.1) || v) (answered_same n ok ko m ks a.1 h)
 
-moves_same : (n1 n2 : ℕ) (ok ko : ℕ → ℕ → Bool) (i side j : ℕ) (ms ks : List Move) → All (Sound n1) ms → All (Sound n2) ks → ((x y : ℕ) → x < n1 → y < n2 → ok x y ≡ ko x y)
+moves_same : (n1 n2 : ℕ) (ok ko : ℕ → ℕ → Bool) (i side j : ℕ) (ms ks : List Move) → AllByRecursion (Sound n1) ms → AllByRecursion (Sound n2) ks → ((x y : ℕ) → x < n1 → y < n2 → ok x y ≡ ko x y)
     → first (move_fault ok ks i side) j ms ≡ first (move_fault ko ks i side) j ms
 moves_same n1 n2 ok ko i side j [] ks a b h = refl
 moves_same n1 n2 ok ko i side j (m ∷ ms) ks a b h =

@@ -1,6 +1,6 @@
 -- Reading a store, and filling one.
 use Rattle.std.proofs.Common.{◌≡◌, ℕ, ◌+◌, ◌-◌, ◌<◌, ◌≤◌, List, [], ◌∷◌, ◌++◌, length, get_or, take, vec_items, sym, refl, ap, ◌∙◌, subst, arith}
-use Rattle.std.specs.List.{AllByRecursion as All}
+use Rattle.std.specs.List.{AllByRecursion}
 use Rattle.std.proofs.ByRecursion.{All-append}
 use Rattle.std.proofs.lemmas.List.{get_or_read, get_or-map, length-map, map_push, append_assoc, take_more, take_all}
 use Rattle.theory.specs.Systems.{Move, Lts, Sound, Lawful}
@@ -45,7 +45,7 @@ module _ (x : Listed) (s : ℕ) (h : s < x.n) (a b : ℕ) (ea : a ≡ get_or (ve
 pub record Filled (M : Lts) (cuts : List ℕ) (ms : List Move) (n : ℕ) : Type 0 where
   pub cut : Cut cuts (length ms) n
   pub narrow : Narrow cuts M.w n
-  pub sound : All (Sound M.n) ms
+  pub sound : AllByRecursion (Sound M.n) ms
   pub pieces : (j : ℕ) → j < n → piece cuts ms j ≡ M.moves j
 
 pub filled_none : (M : Lts) (cuts : List ℕ) (ms : List Move) → cuts ≡ 0 ∷ [] → ms ≡ [] → Filled M cuts ms 0

@@ -2,7 +2,7 @@
 use Rattle.std.proofs.Common.{◌≡◌, ℕ, ◌<◌, List, length, get_or, filter, sym, ap, subst, inl, inr, arith}
 use mathlib.Core.List.Memᴰ
 use mathlib.Core.List.{Memᴰ}
-use Rattle.std.specs.List.{AllByRecursion as All}
+use Rattle.std.specs.List.{AllByRecursion}
 use Rattle.std.proofs.lemmas.Bool.{cases_lt}
 use Rattle.std.proofs.ByRecursion.{all_kept_by, All-get_or}
 use Rattle.theory.specs.Systems.{Move, Lts, Moves, Lawful, Sound}
@@ -22,7 +22,7 @@ shown_lawful y M h = record {
 pub target_below : (M : Lts) → Lawful M → (s k : ℕ) (m : Move) → k < length (M.moves s) → get_or (M.moves s) k (0, 0) ≡ m → m.1 < M.n
 target_below M h s k m l e = subst (λ (v : Move). v.1 < M.n) e (All-get_or (Sound M.n) (M.moves s) k (0, 0) l (h.sound s)).1
 
-pub all_member : {X : Type 0} (P : X → Type 0) {x : X} {xs : List X} → Memᴰ x xs → All P xs → P x
+pub all_member : {X : Type 0} (P : X → Type 0) {x : X} {xs : List X} → Memᴰ x xs → AllByRecursion P xs → P x
 all_member P (Memᴰ.head e) h = subst P (sym e) h.0
 all_member P (Memᴰ.tail m) h = all_member P m h.1
 

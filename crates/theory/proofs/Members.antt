@@ -2,7 +2,7 @@
 use Rattle.std.proofs.Common.{◌≡◌, Bool, true, false, cond, not, T, List, [], ◌∷◌, filter, sym, refl, ap, ◌∙◌, subst, inl, inr}
 use mathlib.Core.List.Memᴰ
 use mathlib.Core.List.{Memᴰ}
-use Rattle.std.specs.List.{AllByRecursion as All}
+use Rattle.std.specs.List.{AllByRecursion}
 
 pub kept_in : {X : Type 0} (p : X → Bool) {x : X} {xs : List X} → Memᴰ x xs → T (p x) → Memᴰ x (filter p xs)
 kept_in p {x} (Memᴰ.head {x = y} {xs = ys} e) h = go (p y) (subst (λ z. T (p z)) e h)
@@ -27,7 +27,7 @@ kept_out p {x} (y ∷ ys) m = go (kept_out p ys) (p y) refl m
     ]
     go below false e k = let r = below k in (Memᴰ.tail r.0, r.1)
 
-pub all_member : {X : Type 0} (P : X → Type 0) {x : X} {xs : List X} → All P xs → Memᴰ x xs → P x
+pub all_member : {X : Type 0} (P : X → Type 0) {x : X} {xs : List X} → AllByRecursion P xs → Memᴰ x xs → P x
 all_member P a (Memᴰ.head e) = subst P (sym e) a.0
 all_member P a (Memᴰ.tail m) = all_member P a.1 m
 

@@ -1,7 +1,7 @@
 -- Reading a store, filling one, and its laws.
 use Rattle.std.proofs.Common.{◌≡◌, ℕ, ◌+◌, ◌-◌, ◌<◌, ◌≤◌, cond, List, [], ◌∷◌, ◌++◌, length, get_or, take, drop, sym, refl, ap, ◌∙◌, subst, ap₂, inl, inr, arith}
 use mathlib.Core.Path.{fun_ext}
-use Rattle.std.specs.List.{AllByRecursion as All}
+use Rattle.std.specs.List.{AllByRecursion}
 use Rattle.std.proofs.ByRecursion.{All-take, All-drop}
 use Rattle.std.proofs.lemmas.List.{length-append, length_push, get_or_push, get_or_append_left, length-drop, length-take-le, take-append-le, drop-append-le, drop_at, take_all, get_or-take, get_or-drop}
 use Rattle.std.proofs.lemmas.Bool.{cases_lt, lt-ltb, le-ltb}
@@ -84,7 +84,7 @@ stored_is M law n w cuts ms en ew h = same_systems (stored n w cuts ms) M en ew 
   | inr g ↦ stored_past n w cuts ms s g ∙ sym (law.none s (omega arith))
 ])
 
-pub stored_lawful : (n w : ℕ) (cuts : List ℕ) (ms : List Move) → n ≤ 1024 → w ≤ 4096 → Cut cuts (length ms) n → Narrow cuts w n → All (Sound n) ms → (n ≡ 0 → w ≡ 0) → Lawful (stored n w cuts ms)
+pub stored_lawful : (n w : ℕ) (cuts : List ℕ) (ms : List Move) → n ≤ 1024 → w ≤ 4096 → Cut cuts (length ms) n → Narrow cuts w n → AllByRecursion (Sound n) ms → (n ≡ 0 → w ≡ 0) → Lawful (stored n w cuts ms)
 stored_lawful n w cuts ms few narrow c short inside empty = record {
   few = few;
   narrow = narrow;
@@ -93,8 +93,8 @@ stored_lawful n w cuts ms few narrow c short inside empty = record {
     | inr l ↦ let e = ap length (stored_past n w cuts ms s l) in omega arith
   ];
   sound = λ s. elim (cases_lt s n) [
-    | inl l ↦ subst (All (Sound n)) (sym (stored_here cuts ms n c s l w)) (All-take (Sound n) (get_or cuts (s + 1) 0 - get_or cuts s 0) (drop (get_or cuts s 0) ms) (All-drop (Sound n) (get_or cuts s 0) ms inside))
-    | inr l ↦ subst (All (Sound n)) (sym (stored_past n w cuts ms s l)) tt
+    | inl l ↦ subst (AllByRecursion (Sound n)) (sym (stored_here cuts ms n c s l w)) (All-take (Sound n) (get_or cuts (s + 1) 0 - get_or cuts s 0) (drop (get_or cuts s 0) ms) (All-drop (Sound n) (get_or cuts s 0) ms inside))
+    | inr l ↦ subst (AllByRecursion (Sound n)) (sym (stored_past n w cuts ms s l)) tt
   ];
   none = λ s l. stored_past n w cuts ms s l;
   empty = empty;

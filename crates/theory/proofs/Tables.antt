@@ -1,6 +1,6 @@
 -- The laws of a table.
 use Rattle.std.proofs.Common.{◌≡◌, ℕ, zero, suc, ◌<◌, ◌≤◌, Bool, true, false, cond, not, ◌&&◌, eqb, ltb, leb, List, [], ◌∷◌, map, length, filter, refl, ap, ◌∙◌, inl, inr, arith}
-use Rattle.std.specs.List.{AllByRecursion as All}
+use Rattle.std.specs.List.{AllByRecursion}
 use Rattle.std.proofs.lemmas.List.{length-map}
 use Rattle.std.proofs.lemmas.Bool.{cases_lt, and_parts, and_left, and_right, ltb-true, leb-true, le-ltb, ne_eqb, cond_both}
 use Rattle.std.proofs.ByRecursion.{All-map, All-weaker, kept_by_passes}
@@ -55,7 +55,7 @@ module _ (n : ℕ) (rows : List Triple) where
   moves_past : (s : ℕ) → n ≤ s → table_moves n rows s ≡ []
   moves_past s h = ap (map transition) (kept_none (is_from n s) rows (λ row. from_past n s row h))
 
-  moves_sound : (s : ℕ) → All (Sound n) (table_moves n rows s)
+  moves_sound : (s : ℕ) → AllByRecursion (Sound n) (table_moves n rows s)
   moves_sound s = All-map (Sound n) transition (filter (is_from n s) rows) (All-weaker (λ row. is_from n s row ≡ true) (λ row. Sound n (transition row)) (λ row h. from_sound n s row h) (filter (is_from n s) rows) (kept_by_passes (is_from n s) rows))
 
   fits_lawful : table_fits n rows ≡ true → Lawful (record { n = n; w = widest (table_moves n rows) n; moves = table_moves n rows })

@@ -1,6 +1,6 @@
 -- A test of a claim, and that it tells: the theorem about the whole list is one computation.
 use Rattle.std.proofs.Common.{◌≡◌, ℕ, zero, suc, Bool, true, false, ◌&&◌, eqb, List, [], ◌∷◌, refl, ap₂}
-use Rattle.std.specs.List.{flat_map, AllByRecursion as All}
+use Rattle.std.specs.List.{flat_map, AllByRecursion}
 use Rattle.std.proofs.lemmas.Bool.{false≢true, and_parts, eqb-true}
 use Rattle.theory.specs.Systems.{Move}
 use Rattle.theory.specs.Layers.{standing}
@@ -19,7 +19,7 @@ module _ {X : Type 0} where
   every test [] = true
   every test (x ∷ xs) = test x && every test xs
 
-  every_all : (P : X → Type 0) (test : X → Bool) → ((x : X) → test x ≡ true → P x) → (xs : List X) → every test xs ≡ true → All P xs
+  every_all : (P : X → Type 0) (test : X → Bool) → ((x : X) → test x ≡ true → P x) → (xs : List X) → every test xs ≡ true → AllByRecursion P xs
   every_all P test tells [] h = tt
   every_all P test tells (x ∷ xs) h = let w = and_parts (test x) (every test xs) h in (tells x w.0, every_all P test tells xs w.1)
 
@@ -66,8 +66,8 @@ check_tells (Apart p q (suc k)) h =
     ((λ e. struck.1 (bisimilar_kept M N (suc k) s t e)), struck)
 check_tells (Starts p moves) h = same_tells ((meaning p).sys.moves (meaning p).start) moves h
 
-pub all_hold : All Holds examples
+pub all_hold : AllByRecursion Holds examples
 all_hold = every_all Holds check check_tells examples refl
 
-pub all_lawful : All LawfulTerm (flat_map terms_of examples)
+pub all_lawful : AllByRecursion LawfulTerm (flat_map terms_of examples)
 all_lawful = every_all LawfulTerm lawful (λ p h. h) (flat_map terms_of examples) refl

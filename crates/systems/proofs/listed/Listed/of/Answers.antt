@@ -1,5 +1,5 @@
 use Rattle.std.proofs.Common.{◌≡◌, length, vec_items, sym, ◌∙◌, subst, arith}
-use Rattle.std.specs.List.{AllByRecursion as All}
+use Rattle.std.specs.List.{AllByRecursion}
 use Rattle.std.proofs.lemmas.List.{length-map}
 use Rattle.theory.specs.Systems.{Sound}
 use Rattle.theory.specs.Stores.{Narrow}
@@ -25,7 +25,7 @@ invariant_of-result g c =
     let M = g.L.Lists.meaning source in
     let law = g.L.Lists.lawful source in
     let h = filled_to M (vec_items c.loop-s.cuts) (moves_of (vec_items c.loop-s.list)) c.loop-s.s c.states-n.result c.loop-s-test.false c.loop-s.auto.s-end c.loop-s.invariant in
-    let sound : All (Sound c.states-n.result) (moves_of (vec_items c.loop-s.list)) = subst (λ n. All (Sound n) (moves_of (vec_items c.loop-s.list))) (sym c.states-n.ensures) h.sound in
+    let sound : AllByRecursion (Sound c.states-n.result) (moves_of (vec_items c.loop-s.list)) = subst (λ n. AllByRecursion (Sound n) (moves_of (vec_items c.loop-s.list))) (sym c.states-n.ensures) h.sound in
     record {
       few = omega (arith, c.states-n.ensures, law.few);
       narrow = omega (arith, c.width.ensures, law.narrow);
