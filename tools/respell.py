@@ -179,7 +179,7 @@ def main(argv):
                 continue
             new = re.sub(rf"(ghost use [^;]*){first}\b", rf"\g<1>{first} as {second}", new)
             new = re.sub(rf"(?m)^(\s*(?:ensures|requires)\b.*?)\b{first}\b", rf"\g<1>{second}", new)
-        new = re.sub(r"\b([\w']+) as \1\b", r"\1", new)
+        new = re.sub(r"(?m)^(?:ghost )?use .*$", lambda m: re.sub(r"\b([\w']+) as \1\b", r"\1", m.group()), new)
         if new != text:
             with open(p, "w", encoding="utf-8") as f:
                 f.write(new)

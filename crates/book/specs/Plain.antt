@@ -1,5 +1,5 @@
 -- The plain book: sixteen sockets and three counts, and what each call does to them. It is fed the arguments of the calls, and
--- no answers. A call that is refused leaves it is.
+-- no answers. A call that is refused leaves it as it is.
 use Rattle.std.specs.Prelude.{◌≡◌, ℕ, ◌+◌, ◌-◌, Bool, true, false, cond, ◌&&◌, List, [], ◌∷◌, replicate, Some, None, Option, ◌==◌, nat_le, nat_lt, slice_index_or, slice_set}
 use Rattle.theory.specs.Systems.{Lts}
 use Rattle.theory.specs.Layers.{standing}

@@ -32,14 +32,14 @@ module _ {X Y : Type 0} (q : ℕ → X → Option Y) (d : X) where
   first_none_in i (x ∷ xs) f = or_right (q i x) (first q (i + 1) xs) (f 0 i (omega arith) (omega arith)) ∙ first_none_in (i + 1) xs (λ k j a l. f (suc k) j (omega arith) (omega arith))
 
   -- the question has this answer at k, and none before
-  abbrev pub Answers_at : ℕ → List X → ℕ → Y → Type 0
-  Answers_at i xs k y = (k < length xs) × ((j n : ℕ) → i + j ≡ n → j < k → q n (get_or xs j d) ≡ None) × ((n : ℕ) → i + k ≡ n → q n (get_or xs k d) ≡ Some y)
+  abbrev pub AnswersAt : ℕ → List X → ℕ → Y → Type 0
+  AnswersAt i xs k y = (k < length xs) × ((j n : ℕ) → i + j ≡ n → j < k → q n (get_or xs j d) ≡ None) × ((n : ℕ) → i + k ≡ n → q n (get_or xs k d) ≡ Some y)
 
-  pub first_some_out : (i : ℕ) (xs : List X) (y : Y) → first q i xs ≡ Some y → (k : ℕ) × Answers_at i xs k y
+  pub first_some_out : (i : ℕ) (xs : List X) (y : Y) → first q i xs ≡ Some y → (k : ℕ) × AnswersAt i xs k y
   first_some_out i [] y e = some_none y (sym e)
   first_some_out i (x ∷ xs) y e = go (first_some_out (i + 1) xs y) (or_some (q i x) (first q (i + 1) xs) y e)
     where
-      go : (first q (i + 1) xs ≡ Some y → (k : ℕ) × Answers_at (i + 1) xs k y) → (q i x ≡ Some y) ⊎ ((q i x ≡ None) × (first q (i + 1) xs ≡ Some y)) → (k : ℕ) × Answers_at i (x ∷ xs) k y
+      go : (first q (i + 1) xs ≡ Some y → (k : ℕ) × AnswersAt (i + 1) xs k y) → (q i x ≡ Some y) ⊎ ((q i x ≡ None) × (first q (i + 1) xs ≡ Some y)) → (k : ℕ) × AnswersAt i (x ∷ xs) k y
       go below (inl h) = (0, (omega arith, (λ j n a l. absurd (omega arith)), (λ n a. let b : i ≡ n = omega arith in subst (λ v. q v x ≡ Some y) b h)))
       go below (inr h) = let r = below h.1 in (suc r.0, (omega (arith, r.1.0), before r.0 r.1.1, (λ n a. r.1.2 n (omega arith))))
         where
@@ -47,7 +47,7 @@ module _ {X Y : Type 0} (q : ℕ → X → Option Y) (d : X) where
           before m f zero n a l = let b : i ≡ n = omega arith in subst (λ v. q v x ≡ None) b h.0
           before m f (suc j) n a l = f j n (omega arith) (omega arith)
 
-  pub first_some_in : (i : ℕ) (xs : List X) (y : Y) (k : ℕ) → Answers_at i xs k y → first q i xs ≡ Some y
+  pub first_some_in : (i : ℕ) (xs : List X) (y : Y) (k : ℕ) → AnswersAt i xs k y → first q i xs ≡ Some y
   first_some_in i [] y k h = absurd (omega (arith, h.0))
   first_some_in i (x ∷ xs) y zero h = or_left (q i x) (first q (i + 1) xs) y (h.2 i (omega arith))
   first_some_in i (x ∷ xs) y (suc k) h = or_right (q i x) (first q (i + 1) xs) (h.1 0 i (omega arith) (omega arith)) ∙ first_some_in (i + 1) xs y k (omega (arith, h.0), (λ j n a l. h.1 (suc j) n (omega arith) (omega arith)), (λ n a. h.2 n (omega arith)))

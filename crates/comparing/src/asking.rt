@@ -1,4 +1,4 @@
-ghost use Rattle.std.specs.Prelude.{◌≡◌, IfOk};
+ghost use Rattle.std.specs.Prelude.{IfOk};
 ghost use Rattle.comparing.specs.Comparisons.{Answered, Exact};
 
 use super::answer::{Answer, FileFault};

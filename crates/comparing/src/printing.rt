@@ -1,7 +1,7 @@
 // An answer as text.
 ghost use Rattle.std.specs.Prelude.{◌≡◌, Some};
-ghost use Rattle.designs.specs.Refusals.{number as node_number, place};
-ghost use Rattle.files.specs.Refusals.{number as file_number};
+ghost use Rattle.designs.specs.Refusals.{number as number_of_node, place};
+ghost use Rattle.files.specs.Refusals.{number as number_of_file};
 ghost use Rattle.comparing.specs.Lines.{number as question_of, design_number as design_of, node_number as node_of, line};
 
 use super::answer::{Answer, FileFault};
@@ -10,7 +10,7 @@ use files::refusal::FileRefusal;
 use std::fmt;
 
 fn file_question(f: FileRefusal) -> u8
-    ensures { result ≡ file_number f }
+    ensures { result ≡ number_of_file f }
 {
     match f {
         FileRefusal::Mark => 28,
@@ -20,7 +20,7 @@ fn file_question(f: FileRefusal) -> u8
 }
 
 fn node_question(f: NodeRefusal) -> u8
-    ensures { result ≡ node_number f }
+    ensures { result ≡ number_of_node f }
 {
     match f {
         NodeRefusal::Count => 5,

@@ -2,7 +2,7 @@
 // still kept.
 ghost use Rattle.std.specs.Prelude.{◌≡◌, ℕ, ◌+◌, ◌*◌, ◌<◌, ◌≤◌, not, ◌&&◌, length, filter};
 ghost use Rattle.theory.specs.Layers.{keeps_move, shown};
-ghost use Rattle.refinement.specs.Cells.{answers, answered, stuck, unanswered, low, on_grid, together};
+ghost use Rattle.refinement.specs.Cells.{answers, answered, stuck, unanswered, on_grid, together};
 ghost use Rattle.actions.specs.Transitions.{move_of};
 
 use actions::action::Action;

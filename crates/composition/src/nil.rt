@@ -1,4 +1,3 @@
-ghost use Rattle.std.specs.Prelude.{◌≡◌};
 ghost use Rattle.theory.specs.Operators.{nil};
 ghost use Rattle.theory.proofs.OperatorLaws.{nil_lawful};
 ghost use Rattle.rules.specs.Derived.{Follows};

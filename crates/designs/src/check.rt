@@ -1,5 +1,5 @@
 // The questions that the nodes of a design have to pass.
-ghost use Rattle.std.specs.Prelude.{◌≡◌, ℕ, ◌-◌, true, length, MatchResult};
+ghost use Rattle.std.specs.Prelude.{◌≡◌, ◌-◌, true, length, MatchResult};
 ghost use Rattle.designs.specs.Tables.{design};
 ghost use Rattle.designs.specs.Shapes.{ShapeOf};
 ghost use Rattle.designs.specs.Nodes.{forms, countable};

@@ -1,5 +1,5 @@
 // From nodes to operations.
-ghost use Rattle.std.specs.Prelude.{◌≡◌, ℕ, true, false, ◌&&◌, Some, None, MatchResult, nat_le};
+ghost use Rattle.std.specs.Prelude.{◌≡◌, true, false, ◌&&◌, Some, None, MatchResult, nat_le};
 ghost use Rattle.theory.specs.Codes.{lawful_code, lawful_word, lawful_channel};
 ghost use Rattle.designs.specs.Operations.{form_of};
 ghost use Rattle.designs.specs.Nodes.{said, fault, form};

@@ -1,5 +1,5 @@
 // Numbers and nodes in a file, high byte first.
-ghost use Rattle.std.specs.Prelude.{◌≡◌, ℕ, ◌+◌, ◌*◌, ◌^◌, ◌<◌, ◌≤◌, length, IfOk};
+ghost use Rattle.std.specs.Prelude.{◌≡◌, ◌+◌, ◌*◌, ◌^◌, ◌<◌, ◌≤◌, length, IfOk};
 ghost use Rattle.files.specs.Layouts.{field as field_at, node_at as node_of, nodes_at as nodes_of};
 
 use designs::node::Node;

@@ -1,5 +1,5 @@
 // The questions asked of a file.
-ghost use Rattle.std.specs.Prelude.{◌≡◌, ℕ, Some, None, MatchResult};
+ghost use Rattle.std.specs.Prelude.{◌≡◌, Some, None, MatchResult};
 ghost use Rattle.files.specs.Layouts.{marked, version_one, first_count, second_count};
 ghost use Rattle.files.specs.Refusals.{file_fault};
 

@@ -4,7 +4,7 @@ use mathlib.Core.List.Memᴰ
 use mathlib.Core.List.{Memᴰ}
 use Rattle.std.proofs.lemmas.Bool.{cases_Bool}
 use Rattle.theory.specs.Codes.{raised, lowered, renamed}
-use Rattle.theory.specs.Systems.{Move, Lts, Moves}
+use Rattle.theory.specs.Systems.{Move, Lts, Moves, Lawful}
 use Rattle.theory.specs.Layers.{patient, Patient}
 use Rattle.theory.specs.Operators.{recoded, open_move, restrict, rename, recoded_moves, raise, lower}
 use Rattle.theory.proofs.Truth.{T_true, true_T}
@@ -109,17 +109,21 @@ module _ (first second u v : ℕ) (f : ℕ → ℕ) (turns : Turns first second 
   class_exact : Exactly Turned Rule
   class_exact = record { derived = class_out; made = λ s a t r. class_in r }
 
+pub class_derived : (first second u v : ℕ) (f : ℕ → ℕ) → Turns first second u v f → (M : Lts) → Lawful M
+    → Exactly (record { n = M.n; w = M.w; moves = λ s. recoded_moves f (M.moves s) }) (ClassRule u v first second M)
+class_derived first second u v f turns M h = class_exact first second u v f turns M (fits h)
+
 pub raising_exact : (first second : ℕ) (M : Lts) → Fits M → Exactly (raise first second M) (RaisingRule first second M)
 raising_exact first second M h = class_exact first second 0 1 (raised first second) (raised_turns first second) M h
 
 pub raising_derived : RaisingDerived
-raising_derived first second M h = raising_exact first second M (fits h)
+raising_derived first second M h = class_derived first second 0 1 (raised first second) (raised_turns first second) M h
 
 pub lowering_exact : (first second : ℕ) (M : Lts) → Fits M → Exactly (lower first second M) (LoweringRule first second M)
 lowering_exact first second M h = class_exact first second 1 0 (lowered first second) (lowered_turns first second) M h
 
 pub lowering_derived : LoweringDerived
-lowering_derived first second M h = lowering_exact first second M (fits h)
+lowering_derived first second M h = class_derived first second 1 0 (lowered first second) (lowered_turns first second) M h
 
 pub standing_derived : StandingDerived
 standing_derived M = record { derived = stands_out M; made = stands_in M }

@@ -1,4 +1,4 @@
-ghost use Rattle.std.specs.Prelude.{◌≡◌, ℕ, ◌<◌, ◌↔◌, length, if◌then◌else◌, Ok, Err};
+ghost use Rattle.std.specs.Prelude.{◌≡◌, ◌<◌, ◌↔◌, length, if◌then◌else◌, Ok, Err};
 ghost use Rattle.theory.specs.Layers.{shown};
 ghost use Rattle.theory.specs.Faults.{first_fault};
 ghost use Rattle.actions.specs.Transitions.{Kth};

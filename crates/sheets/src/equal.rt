@@ -1,7 +1,7 @@
-ghost use Rattle.std.specs.Prelude.{◌≡◌, ℕ, ◌≤◌, ◌&&◌, ◌↔◌, length, if◌then◌else◌, Ok, Err, ◌==◌};
+ghost use Rattle.std.specs.Prelude.{◌≡◌, ℕ, ◌≤◌, ◌&&◌, ◌↔◌, if◌then◌else◌, Ok, Err, ◌==◌};
 ghost use Rattle.std.specs.Option.{option_map};
 ghost use Rattle.theory.specs.Layers.{shown};
-ghost use Rattle.theory.specs.Faults.{first_fault, passed};
+ghost use Rattle.theory.specs.Faults.{first_fault};
 ghost use Rattle.certificates.specs.declared.fault.SheetFault.{SheetFault as Fault};
 ghost use Rattle.certificates.specs.declared.fault.SheetFault.TheVariants.{Unanswered};
 ghost use Rattle.certificates.specs.EqualSheets.{listed, move_fault, answer_fault, equal_row_fault, equal_fault, AcceptedEqual, RefusedEqual, EqualDecided};

@@ -1,4 +1,4 @@
-ghost use Rattle.std.specs.Prelude.{◌≡◌, ◌++◌, length, OnOk};
+ghost use Rattle.std.specs.Prelude.{◌≡◌, ◌++◌, OnOk};
 ghost use Rattle.theory.specs.Systems.{Lts, Lawful};
 ghost use Rattle.actions.specs.Transitions.{moves_of};
 

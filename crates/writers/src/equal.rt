@@ -1,4 +1,4 @@
-ghost use Rattle.std.specs.Prelude.{◌≡◌, ℕ, ◌+◌, ◌*◌, ◌<◌, ◌≤◌, length, if◌then◌else◌, Some, None, nat_le};
+ghost use Rattle.std.specs.Prelude.{◌≡◌, ◌+◌, ◌*◌, ◌<◌, ◌≤◌, length, if◌then◌else◌, Some, None, nat_le};
 ghost use Rattle.theory.specs.Layers.{shown};
 ghost use Rattle.certificates.specs.Listings.{is_zero, numbers, pair_at, equal_listing};
 ghost use Rattle.comparison.specs.Comparisons.{verdict_answer};

@@ -1,4 +1,4 @@
-ghost use Rattle.std.specs.Prelude.{◌≡◌, ◌+◌, ◌*◌, ◌≤◌, length, Ok};
+ghost use Rattle.std.specs.Prelude.{◌≡◌, ◌+◌, ◌*◌, ◌≤◌, Ok};
 ghost use Rattle.theory.specs.Layers.{shown};
 ghost use Rattle.refinement.specs.Runs.{VerdictLaw};
 ghost use Rattle.comparison.specs.declared.comparison.Verdict.TheVariants.{Equal, Different};

@@ -1,4 +1,3 @@
-ghost use Rattle.std.specs.Prelude.{◌≡◌, length};
 ghost use Rattle.systems.specs.Listings.{listed_lawful};
 ghost use Rattle.design_moves.specs.WrittenDesigns.{meant};
 

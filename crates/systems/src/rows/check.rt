@@ -1,4 +1,4 @@
-ghost use Rattle.std.specs.Prelude.{◌≡◌, ◌&&◌};
+ghost use Rattle.std.specs.Prelude.{◌≡◌};
 ghost use Rattle.theory.specs.Faults.{first_fault, passed};
 ghost use Rattle.systems.specs.Rows.{number as number_of, place as place_of, row_fault, table_fault};
 

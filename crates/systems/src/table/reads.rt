@@ -6,7 +6,6 @@ ghost use Rattle.systems.specs.Listings.{listed, listed_lawful};
 use super::Table;
 use super::source::Source;
 use crate::listed::Listed;
-use crate::lists::Lists;
 use crate::rows::Row;
 use crate::system::System;
 use actions::action::Action;
