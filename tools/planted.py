@@ -4,7 +4,7 @@
     tools/planted.py [CRATE...]
 
 A bug is a change of one line that keeps the shape of the code and turns its meaning. Where one is still proved, the contract
-is too weak. Run `rt check` first: the copy takes over what is proved. docs/planted-bugs.md has the outcome."""
+is too weak. Run `rt all check` first: the copy takes over what is proved. docs/planted-bugs.md has the outcome."""
 
 import pathlib
 import re
@@ -28,11 +28,12 @@ def bugs_of(crate):
 
 def outcome_of(log, label):
     """Where the check refused the bug, or what else came of it."""
-    line = next((line for line in log.splitlines() if f"/{label}: " in line), "not tried")
-    place = re.search(r"first at ([^;]*);", line)
-    if place:
-        return place.group(1)
-    return "refused" if ": refused" in line else line.split(": ", 2)[-1]
+    line = next((line for line in log.splitlines() if f"/{label}.edit: " in line), "not tried")
+    if ": refused" not in line:
+        return line.split(f"/{label}.edit: ", 1)[-1][:80]
+    place = re.search(r"((?:src|proofs)/[^ :]*)", line)
+    goal = re.search(r"`([^`]*)`", line)
+    return (f"`{place.group(1)}`" if place else "refused") + (f", `{goal.group(1)}`" if goal else "")
 
 
 def plant(crate, copy):
@@ -53,9 +54,8 @@ def main():
         copy = pathlib.Path(work) / "repo"
         copy.mkdir()
         shutil.copy(ROOT / "crates.txt", copy)
-        # rt tries the edits of what a crate depends on too: there are none but the planted ones
+        # No edits but the planted ones are tried. What was proved here lies in the crates' folders out/.
         shutil.copytree(ROOT / "crates", copy / "crates", ignore=shutil.ignore_patterns("must-fail"))
-        shutil.copytree(ROOT / "target", copy / "target", ignore=shutil.ignore_patterns("must-fail"))
         for crate in crates:
             plant(crate, copy)
 
