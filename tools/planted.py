@@ -33,7 +33,8 @@ def outcome_of(log, label):
         return line.split(f"/{label}.edit: ", 1)[-1][:80]
     place = re.search(r"((?:src|proofs)/[^ :]*)", line)
     goal = re.search(r"`([^`]*)`", line)
-    return (f"`{place.group(1)}`" if place else "refused") + (f", `{goal.group(1)}`" if goal else "")
+    told = (f"`{place.group(1)}`" if place else "refused") + (f", `{goal.group(1)}`" if goal else "")
+    return told + (" (only a name that a proof cites is gone)" if "only because a proof file names" in line else "")
 
 
 def plant(crate, copy):
