@@ -11,7 +11,7 @@ impl Draws {
         Draws { state: seed }
     }
 
-    pub fn below(&mut self, n: usize) -> usize
+    pub(crate) fn below(&mut self, n: usize) -> usize
         requires { 0 < n }
         ensures { result < n }
     {

@@ -110,7 +110,7 @@ impl Input {
         }
     }
 
-    pub fn pair(self, heap: Global, n: u32) -> Result<Pair, AllocError>
+    pub(crate) fn pair(self, heap: Global, n: u32) -> Result<Pair, AllocError>
         requires { (1 < n) × (n ≤ 1024) }
     {
         let mut draws = Draws::new(1);
