@@ -15,7 +15,7 @@ import sys
 
 DASHED = re.compile(r"(?<![\w'-])[A-Za-z][\w']*(?:-[\w']+)+(?![\w'-])")
 # A lemma about one of the library's functions is named by both, as in length-map.
-JOINS = ("length", "map", "filter", "take", "drop", "get_or", "T", "All")
+JOINS = ("length", "map", "filter", "take", "drop", "get_or")
 IMPORT = re.compile(r"use ([\w.ᴰ]+)\.\{([^}]*)\}")
 
 
@@ -84,14 +84,12 @@ def made(code):
 
 def new_spelling(name):
     head, *rest = name.split("-")
-    if head in JOINS and name[0].islower() or name == "T-cases" or name.startswith("All-") and name in LEMMAS:
+    if head in JOINS or name == "T-cases":
         return head + "-" + "_".join(rest)
     if name[0].isupper():
         return "".join(p[0].upper() + p[1:] for p in [head, *rest])
     return "_".join([head, *rest])
 
-
-LEMMAS = set()
 
 # Imports under a second name, where a function of the same file has the first.
 SECOND = {
