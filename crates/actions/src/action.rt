@@ -10,14 +10,12 @@ pub struct Action {
 }
 
 impl Action {
-    // The codes 2, 3 and those above 243 name no action.
+    // The codes 2, 3 and those above 243 name no action. `Option` as `char::from_u32` has: nothing is to be said of a code that is none.
     pub fn from_code(code: u16) -> Option<Action>
         ensures { option_map (λ a. a.code) result ≡ (if lawful_code code then Some code else None) }
     {
         match code {
-            0 => Some(Action { code: 0 }),
-            1 => Some(Action { code: 1 }),
-            4..=243 => Some(Action { code: code as u8 }),
+            0 | 1 | 4..=243 => Some(Action { code: code as u8 }),
             gap if gap < 4 => None,
             _ => None,
         }
@@ -26,10 +24,8 @@ impl Action {
     pub fn inner(prioritised: bool) -> Action
         ensures { result.code ≡ (if prioritised then 1 else 0) }
     {
-        if prioritised {
-            Action { code: 1 }
-        } else {
-            Action { code: 0 }
+        Action {
+            code: u8::from(prioritised),
         }
     }
 

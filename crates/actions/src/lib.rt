@@ -3,4 +3,5 @@
 
 pub mod action;
 pub mod pair;
+pub mod recoding;
 pub mod renaming;

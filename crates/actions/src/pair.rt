@@ -1,8 +1,9 @@
-ghost use Rattle.std.specs.Prelude.{◌≡◌, ℕ, true, ◌&&◌, if◌then◌else◌, Some, None};
+ghost use Rattle.std.specs.Prelude.{◌≡◌, ℕ, ◌<◌, true, ◌&&◌, if◌then◌else◌, Some, None};
 ghost use Rattle.std.specs.Option.{option_map};
-ghost use Rattle.theory.specs.Codes.{lawful_word};
+ghost use Rattle.theory.specs.Codes.{has_channel, lawful_word};
 
 // Two sets of channels, as words in which bit c stands for channel c. Only the bits 1 to 60 may be set.
+// Words as they are handed in: a pair is copied, and asked by a shift.
 #[derive(Clone, Copy, PartialEq, Eq, Debug)]
 pub struct ChannelPair {
     first: u64,
@@ -11,7 +12,7 @@ pub struct ChannelPair {
     ghost second_lawful: { lawful_word second ≡ true },
 }
 
-const PAST_CHANNELS: u64 = 0x2000_0000_0000_0000;
+const PAST_CHANNELS: u64 = 1 << 61;
 
 fn is_lawful(word: u64) -> bool
     ensures { result ≡ lawful_word word }
@@ -20,6 +21,7 @@ fn is_lawful(word: u64) -> bool
 }
 
 impl ChannelPair {
+    // `Option`, since nothing is to be said of words that are no sets.
     pub fn new(first: u64, second: u64) -> Option<ChannelPair>
         ensures { option_map {U = ℕ × ℕ} (λ p. (p.first, p.second)) result ≡ (if lawful_word first && lawful_word second then Some (first, second) else None) }
     {
@@ -40,5 +42,14 @@ impl ChannelPair {
         ensures { result ≡ self.second }
     {
         self.second
+    }
+
+    // Whether the second set has the channel, or, if not asked of that, the first.
+    pub(crate) fn has(self, second: bool, channel: u8) -> bool
+        requires { channel < 64 }
+        ensures { result ≡ has_channel (if second then self.second else self.first) channel }
+    {
+        let word = if second { self.second } else { self.first };
+        (word >> channel) % 2 == 1
     }
 }

@@ -5,6 +5,7 @@ ghost use Rattle.theory.specs.Codes.{lawful_channel};
 // Moves the actions of one class (0 unprioritised, 1 prioritised) from one channel to another.
 #[derive(Clone, Copy, PartialEq, Eq, Debug)]
 pub struct Renaming {
+    // A plain number, as it stands in an action's code.
     class: u8,
     from: u8,
     to: u8,
@@ -16,10 +17,11 @@ pub struct Renaming {
 fn is_channel(c: u64) -> bool
     ensures { result ≡ lawful_channel c }
 {
-    c >= 1 && c <= 60
+    (1..=60).contains(&c)
 }
 
 impl Renaming {
+    // `Option`, since nothing is to be said of numbers that are no renaming.
     pub fn new(class: u16, from: u64, to: u64) -> Option<Renaming>
         ensures { option_map {U = ℕ × ℕ × ℕ} (λ x. (x.class, x.from, x.to)) result ≡ (if nat_le class 1 && (lawful_channel from && lawful_channel to) then Some (class, from, to) else None) }
     {

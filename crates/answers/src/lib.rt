@@ -3,3 +3,5 @@
 
 pub mod held;
 pub mod search;
+pub mod state;
+pub mod states;

@@ -1,4 +1,3 @@
-pub mod Counting
 pub mod Opened
 pub mod Proving
 pub mod Runs

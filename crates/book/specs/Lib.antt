@@ -4,5 +4,4 @@ pub mod Openings
 pub mod Views
 pub mod Reports
 pub mod Promises
-pub mod Questions
 pub mod Requests

@@ -6,32 +6,31 @@ use Rattle.theory.specs.Layers.{standing}
 use Rattle.certificates.specs.declared.rows.EqualRow.{EqualRow}
 use Rattle.certificates.specs.EqualSheets.{AcceptedEqual}
 use Rattle.book.specs.declared.socket.Change.{Change}
-use Rattle.book.specs.declared.socket.Socket.{Socket}
-use Rattle.book.specs.declared.socket.Socket.TheVariants.{Empty, Filled}
+use Rattle.book.specs.declared.socket.Holding.{Holding}
 use Rattle.book.specs.declared.fault.BookFault.{BookFault}
 use Rattle.book.specs.declared.fault.BookFault.TheVariants.{NoSocket, NoState, Occupied, Vacant, ChangeOpen, Full}
 
 pub record Plain : Type 0 where
-  pub sockets : List Socket
+  pub sockets : List (Option Holding)
   pub proposed : ℕ
   pub taken : ℕ
   pub dropped : ℕ
 
 abbrev pub blank : Plain
-blank = record { sockets = replicate 16 Empty; proposed = 0; taken = 0; dropped = 0 }
+blank = record { sockets = replicate 16 None; proposed = 0; taken = 0; dropped = 0 }
 
 -- The sockets have the numbers 1 to 16.
 abbrev pub socket_number : ℕ → Bool
 socket_number i = nat_le 1 i && nat_le i 16
 
 -- what the socket i holds
-abbrev pub socket_in : List Socket → ℕ → Socket
-socket_in xs i = cond (socket_number i) (slice_index_or xs (i - 1) Empty) Empty
+abbrev pub socket_in : List (Option Holding) → ℕ → Option Holding
+socket_in xs i = cond (socket_number i) (slice_index_or xs (i - 1) None) None
 
-abbrev pub at : Plain → ℕ → Socket
+abbrev pub at : Plain → ℕ → Option Holding
 at b i = socket_in b.sockets i
 
-abbrev pub with_socket : List Socket → ℕ → Socket → List Socket
+abbrev pub with_socket : List (Option Holding) → ℕ → Option Holding → List (Option Holding)
 with_socket xs i x = slice_set xs (i - 1) x
 
 -- what is left of a book by a call that may be refused
@@ -40,15 +39,15 @@ unless None before after = after
 unless (Some f) before after = before
 
 -- Enter: is there such a socket, and such a state, and is the socket empty? The state becomes its first and its current part.
-abbrev pub empty_fault : Socket → ℕ → Option BookFault
-empty_fault Empty i = None
-empty_fault (Filled h) i = Some (Occupied i)
+abbrev pub empty_fault : Option Holding → ℕ → Option BookFault
+empty_fault None i = None
+empty_fault (Some h) i = Some (Occupied i)
 
 abbrev pub enter_fault : ℕ → Plain → ℕ → ℕ → Option BookFault
 enter_fault n b i s = cond (socket_number i) (cond (nat_lt s n) (empty_fault (at b i) i) (Some (NoState i))) (Some (NoSocket i))
 
-abbrev pub filled : ℕ → Socket
-filled s = Filled (record { first = s; current = s; change = None })
+abbrev pub filled : ℕ → Option Holding
+filled s = Some (record { first = s; current = s; change = None })
 
 abbrev pub entered : ℕ → Plain → ℕ → ℕ → Plain
 entered n b i s = unless (enter_fault n b i s) b
@@ -60,16 +59,16 @@ abbrev pub closed_fault : Option Change → ℕ → ℕ → Option BookFault
 closed_fault (Some c) i count = Some (ChangeOpen i)
 closed_fault None i count = cond (nat_lt count 65535) None (Some (Full i))
 
-abbrev pub free_fault : Socket → ℕ → ℕ → Option BookFault
-free_fault Empty i count = Some (Vacant i)
-free_fault (Filled h) i count = closed_fault h.change i count
+abbrev pub free_fault : Option Holding → ℕ → ℕ → Option BookFault
+free_fault None i count = Some (Vacant i)
+free_fault (Some h) i count = closed_fault h.change i count
 
 abbrev pub propose_fault : ℕ → Plain → ℕ → ℕ → Option BookFault
 propose_fault n b i s = cond (socket_number i) (cond (nat_lt s n) (free_fault (at b i) i b.proposed) (Some (NoState i))) (Some (NoSocket i))
 
-abbrev pub opened : Socket → ℕ → ℕ → Socket
-opened Empty s k = Empty
-opened (Filled h) s k = Filled (record { first = h.first; current = h.current; change = Some (record { state = s; number = k; proved = false }) })
+abbrev pub opened : Option Holding → ℕ → ℕ → Option Holding
+opened None s k = None
+opened (Some h) s k = Some (record { first = h.first; current = h.current; change = Some (record { state = s; number = k; proved = false }) })
 
 abbrev pub with_proposed : ℕ → Plain → ℕ → ℕ → Plain
 with_proposed n b i s = unless (propose_fault n b i s) b
@@ -81,26 +80,26 @@ abbrev pub numbered : Option Change → ℕ → Option Change
 numbered None k = None
 numbered (Some c) k = cond (c.number == k) (Some c) None
 
-abbrev pub change_in : Socket → ℕ → Option Change
-change_in Empty k = None
-change_in (Filled h) k = numbered h.change k
+abbrev pub change_in : Option Holding → ℕ → Option Change
+change_in None k = None
+change_in (Some h) k = numbered h.change k
 
-abbrev pub current_in : Socket → ℕ
-current_in Empty = 0
-current_in (Filled h) = h.current
+abbrev pub current_in : Option Holding → ℕ
+current_in None = 0
+current_in (Some h) = h.current
 
-abbrev pub first_in : Socket → ℕ
-first_in Empty = 0
-first_in (Filled h) = h.first
+abbrev pub first_in : Option Holding → ℕ
+first_in None = 0
+first_in (Some h) = h.first
 
 -- the sheet is accepted for the current part and the state that the change c proposes
 abbrev pub Accepts : Lts → Plain → ℕ → Change → List EqualRow → Type 0
 Accepts M b i c rows = AcceptedEqual (standing M) (standing M) rows (current_in (at b i)) c.state
 
 -- Prove: if the slip's change is open and the sheet is accepted, the change is proved.
-abbrev pub marked : Socket → Change → Socket
-marked Empty c = Empty
-marked (Filled h) c = Filled (record { first = h.first; current = h.current; change = Some (record { state = c.state; number = c.number; proved = true }) })
+abbrev pub marked : Option Holding → Change → Option Holding
+marked None c = None
+marked (Some h) c = Some (record { first = h.first; current = h.current; change = Some (record { state = c.state; number = c.number; proved = true }) })
 
 abbrev pub with_proof : Plain → ℕ → Change → Plain
 with_proof b i c = record { sockets = with_socket b.sockets i (marked (at b i) c); proposed = b.proposed; taken = b.taken; dropped = b.dropped }
@@ -113,9 +112,9 @@ pub data Proves (M : Lts) (b : Plain) (i k : ℕ) (rows : List EqualRow) (after 
 -- Close: ends the slip's change if it is open. If it is proved, the state proposed becomes the current part and one more was
 -- taken, and if not, one more was dropped.
 -- the socket with another current part, and no open change
-abbrev pub with_part : Socket → ℕ → Socket
-with_part Empty s = Empty
-with_part (Filled h) s = Filled (record { first = h.first; current = s; change = None })
+abbrev pub with_part : Option Holding → ℕ → Option Holding
+with_part None s = None
+with_part (Some h) s = Some (record { first = h.first; current = s; change = None })
 
 abbrev pub ended : Plain → ℕ → Change → Bool → Plain
 ended b i c true = record { sockets = with_socket b.sockets i (with_part (at b i) c.state); proposed = b.proposed; taken = b.taken + 1; dropped = b.dropped }

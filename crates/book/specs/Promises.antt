@@ -1,21 +1,15 @@
 -- What the book promises of its sockets: whatever calls were made, every design made of filled sockets is equal to what it first
 -- was, whichever of them were exchanged since.
-use Rattle.std.specs.Prelude.{◌≡◌, ℕ, ◌+◌, ◌≤◌, Bool, true, false, List}
+use Rattle.std.specs.Prelude.{◌≡◌, ℕ, ◌+◌, ◌≤◌, true, List, is_some}
 use Rattle.theory.specs.Systems.{Lts, Lawful}
 use Rattle.theory.specs.Designs.{EqualDesigns}
 use Rattle.congruence.specs.Expressions.{Expression, Uses, reading}
-use Rattle.book.specs.declared.socket.Socket.{Socket}
-use Rattle.book.specs.declared.socket.Socket.TheVariants.{Empty, Filled}
 use Rattle.book.specs.Counts.{open_changes}
 use Rattle.book.specs.Plain.{Plain, blank, at, first_in, current_in, Call, Run}
 
-abbrev pub is_filled : Socket → Bool
-is_filled Empty = false
-is_filled (Filled h) = true
-
 -- every socket that stands in the expression is filled
 abbrev pub FilledIn : Plain → Expression → Type 0
-FilledIn b e = (i : ℕ) → Uses e i → is_filled (at b i) ≡ true
+FilledIn b e = (i : ℕ) → Uses e i → is_some (at b i) ≡ true
 
 abbrev pub first_part : Plain → ℕ → ℕ
 first_part b i = first_in (at b i)

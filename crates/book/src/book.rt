@@ -1,17 +1,21 @@
-ghost use Rattle.std.specs.Prelude.{◌≡◌, ◌+◌, ◌≤◌, length};
+ghost use Rattle.std.specs.Prelude.{◌≡◌, ◌+◌, ◌≤◌};
 ghost use Rattle.book.specs.Counts.{open_changes};
 
-use crate::socket::Socket;
+use crate::socket::Holding;
 
-// The book. Every change that was proposed is taken, dropped or still open, and there are at most 65535 of them.
+// The sockets have the numbers 1 to 16. The book allocates nothing, so they stand in an array.
+const SOCKETS: usize = 16;
+
+// The book: what fills each socket, and the counts. Every change that was proposed is taken, dropped or still open, and there are
+// at most 65535 of them.
 #[derive(Drop)]
 pub struct Book {
-    sockets: [Socket; 16],
+    sockets: [Option<Holding>; SOCKETS],
     proposed: u16,
     taken: u16,
     dropped: u16,
-    ghost sixteen: { length sockets ≡ 16 },
     ghost counts: { taken + dropped + open_changes sockets ≡ proposed },
+    // A u16 says so too, but a proof about a book that a loop made does not see it.
     ghost most: { proposed ≤ 65535 },
 }
 

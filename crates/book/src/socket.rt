@@ -13,10 +13,3 @@ pub struct Holding {
     pub current: usize,
     pub change: Option<Change>,
 }
-
-// A place for a part of a design.
-#[derive(Clone, Copy)]
-pub enum Socket {
-    Empty,
-    Filled(Holding),
-}

@@ -3,6 +3,7 @@ use book::book::{Book, Closed, replay};
 use book::fault::BookFault;
 use book::request::Request;
 use certificates::fault::SheetFault;
+use certificates::side::Side;
 use std::test::Fail;
 
 #[test]
@@ -10,15 +11,11 @@ fn a_proved_change_is_taken(rt: HostRuntime) -> Result<(), Fail> {
     let system = table(rt.alloc())?;
     let mut book = Book::new();
     assert!(rt; book.enter(&system, 1, CHOICE).is_ok());
-    match book.propose(&system, 1, INNER) {
-        Ok(slip) => {
-            let answer = book.prove(&system, &slip, &SHEET);
-            let closed = book.close(slip);
-            assert_eq!(rt; answer, Ok(()));
-            assert_eq!(rt; closed, Closed::Taken);
-        }
-        Err(_) => return Err(Fail::new("the proposal was refused")),
-    }
+    let slip = book.propose(&system, 1, INNER)?;
+    let answer = book.prove(&system, &slip, &SHEET);
+    let closed = book.close(slip);
+    assert_eq!(rt; answer, Ok(()));
+    assert_eq!(rt; closed, Closed::Taken);
     assert_eq!(rt; book.first(1), Some(CHOICE));
     assert_eq!(rt; book.current(1), Some(INNER));
     assert_eq!(rt; book.proposed(), 1);
@@ -32,20 +29,16 @@ fn a_change_that_is_not_proved_is_dropped(rt: HostRuntime) -> Result<(), Fail> {
     let system = table(rt.alloc())?;
     let mut book = Book::new();
     assert!(rt; book.enter(&system, 16, CHOICE).is_ok());
-    match book.propose(&system, 16, VISIBLE) {
-        Ok(slip) => {
-            let answer = book.prove(&system, &slip, &NO_SHEET);
-            let closed = book.close(slip);
-            let unanswered = SheetFault::Unanswered {
-                row: 1,
-                side: 0,
-                k: 0,
-            };
-            assert_eq!(rt; answer, Err(BookFault::Sheet(unanswered)));
-            assert_eq!(rt; closed, Closed::Dropped);
-        }
-        Err(_) => return Err(Fail::new("the proposal was refused")),
-    }
+    let slip = book.propose(&system, 16, VISIBLE)?;
+    let answer = book.prove(&system, &slip, &NO_SHEET);
+    let closed = book.close(slip);
+    let unanswered = SheetFault::Unanswered {
+        row: 1,
+        side: Side::Left,
+        k: 0,
+    };
+    assert_eq!(rt; answer, Err(BookFault::Sheet(unanswered)));
+    assert_eq!(rt; closed, Closed::Dropped);
     assert_eq!(rt; book.current(16), Some(CHOICE));
     assert_eq!(rt; book.taken(), 0);
     assert_eq!(rt; book.dropped(), 1);
@@ -60,24 +53,12 @@ fn a_slip_of_another_book_closes_the_change(rt: HostRuntime) -> Result<(), Fail>
     let mut other = Book::new();
     assert!(rt; book.enter(&system, 2, CHOICE).is_ok());
     assert!(rt; other.enter(&system, 2, INNER).is_ok());
-    match (
-        book.propose(&system, 2, INNER),
-        other.propose(&system, 2, INNER),
-    ) {
-        (Ok(mine), Ok(theirs)) => {
-            let first = book.close(theirs);
-            let second = book.close(mine);
-            assert_eq!(rt; first, Closed::Dropped);
-            assert_eq!(rt; second, Closed::Nothing);
-        }
-        (Ok(mine), Err(_)) => {
-            let _ = book.close(mine);
-        }
-        (Err(_), Ok(theirs)) => {
-            let _ = other.close(theirs);
-        }
-        (Err(_), Err(_)) => {}
-    }
+    let mine = book.propose(&system, 2, INNER)?;
+    let theirs = other.propose(&system, 2, INNER);
+    let first = theirs.map(|slip| book.close(slip));
+    let second = book.close(mine);
+    assert_eq!(rt; first, Ok(Closed::Dropped));
+    assert_eq!(rt; second, Closed::Nothing);
     assert_eq!(rt; book.dropped(), 1);
     Ok(())
 }
@@ -85,10 +66,7 @@ fn a_slip_of_another_book_closes_the_change(rt: HostRuntime) -> Result<(), Fail>
 #[test]
 fn a_list_of_requests_is_replayed(rt: HostRuntime) -> Result<(), Fail> {
     let system = table(rt.alloc())?;
-    let mut rows = Vec::new(rt.alloc());
-    for row in &SHEET {
-        rows.push(*row)?;
-    }
+    let rows = SHEET.to_vec(rt.alloc())?;
     let requests = [
         Request::Enter {
             socket: 3,

@@ -3,22 +3,15 @@ use book::book::{Book, Slip};
 use book::fault::BookFault;
 use std::test::Fail;
 
+// The number of a refusal, or 0.
 fn number(answer: Result<(), BookFault>) -> u8 {
-    match answer {
-        Ok(()) => 0,
-        Err(fault) => fault.report().number,
-    }
+    answer.err().map_or(0, |fault| fault.report().number)
 }
 
 // The number of a refusal, or 0 if a slip was given, which is spent at once.
 fn proposal(book: &mut Book, answer: Result<Slip, BookFault>) -> u8 {
-    match answer {
-        Ok(slip) => {
-            let _ = book.close(slip);
-            0
-        }
-        Err(fault) => fault.report().number,
-    }
+    let closed = answer.map(|slip| book.close(slip));
+    number(closed.map(|_| ()))
 }
 
 #[test]
@@ -47,16 +40,12 @@ fn proposing_asks_socket_state_and_socket_in_order(rt: HostRuntime) -> Result<()
     let vacant = book.propose(&system, 6, CHOICE);
     assert_eq!(rt; proposal(&mut book, vacant), 24);
     assert_eq!(rt; book.proposed(), 0);
-    match book.propose(&system, 5, INNER) {
-        Ok(slip) => {
-            let again = book.propose(&system, 5, INNER);
-            let second = proposal(&mut book, again);
-            let _ = book.close(slip);
-            assert_eq!(rt; second, 25);
-            Ok(())
-        }
-        Err(_) => Err(Fail::new("the proposal was refused")),
-    }
+    let slip = book.propose(&system, 5, INNER)?;
+    let again = book.propose(&system, 5, INNER);
+    let second = proposal(&mut book, again);
+    let _ = book.close(slip);
+    assert_eq!(rt; second, 25);
+    Ok(())
 }
 
 #[test]
@@ -65,22 +54,16 @@ fn proving_a_change_that_is_not_open_names_the_socket(rt: HostRuntime) -> Result
     let mut book = Book::new();
     let mut other = Book::new();
     assert!(rt; book.enter(&system, 9, CHOICE).is_ok());
-    match book.propose(&system, 9, INNER) {
-        Ok(slip) => {
-            let answer = other.prove(&system, &slip, &SHEET);
-            let _ = book.close(slip);
-            match answer {
-                Ok(()) => Err(Fail::new("proved in a book that has no such change")),
-                Err(fault) => {
-                    let report = fault.report();
-                    assert_eq!(rt; report.number, 27);
-                    assert_eq!(rt; report.place, 9);
-                    Ok(())
-                }
-            }
-        }
-        Err(_) => Err(Fail::new("the proposal was refused")),
-    }
+    let slip = book.propose(&system, 9, INNER)?;
+    let answer = other.prove(&system, &slip, &SHEET);
+    let _ = book.close(slip);
+    let report = answer
+        .err()
+        .ok_or("proved in a book that has no such change")?
+        .report();
+    assert_eq!(rt; report.number, 27);
+    assert_eq!(rt; report.place, 9);
+    Ok(())
 }
 
 #[test]

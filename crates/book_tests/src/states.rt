@@ -1,4 +1,5 @@
 use certificates::rows::EqualRow;
+use example_tables::{pairs, rows};
 use std::alloc::{AllocError, Global};
 use systems::rows::Row;
 use systems::table::Table;
@@ -12,53 +13,14 @@ pub const NIL: usize = 2;
 
 pub const VISIBLE: usize = 3;
 
-const ROWS: [Row; 4] = [
-    Row {
-        from: 0,
-        code: 4,
-        to: 2,
-    },
-    Row {
-        from: 0,
-        code: 1,
-        to: 2,
-    },
-    Row {
-        from: 1,
-        code: 1,
-        to: 2,
-    },
-    Row {
-        from: 3,
-        code: 4,
-        to: 2,
-    },
-];
+const ROWS: [Row; 4] = rows![(0, 4, 2), (0, 1, 2), (1, 1, 2), (3, 4, 2)];
 
 pub fn table(heap: Global) -> Result<Table, AllocError> {
     Table::new(heap, 4, &ROWS)
 }
 
 // The equal sheet of the first two states.
-pub const SHEET: [EqualRow; 2] = [
-    EqualRow {
-        left: CHOICE,
-        right: INNER,
-    },
-    EqualRow {
-        left: NIL,
-        right: NIL,
-    },
-];
+pub const SHEET: [EqualRow; 2] = pairs![(CHOICE, INNER), (NIL, NIL)];
 
 // No sheet of the first and the last.
-pub const NO_SHEET: [EqualRow; 2] = [
-    EqualRow {
-        left: NIL,
-        right: NIL,
-    },
-    EqualRow {
-        left: CHOICE,
-        right: VISIBLE,
-    },
-];
+pub const NO_SHEET: [EqualRow; 2] = pairs![(NIL, NIL), (CHOICE, VISIBLE)];

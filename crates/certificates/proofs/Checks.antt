@@ -1,28 +1,26 @@
 -- A check asks for the number of rows, then row by row, then for the asked pair: what its answer says.
 use Rattle.std.proofs.Common.{◌≡◌, ℕ, ◌<◌, Bool, true, false, cond, leb, ◌⊎◌, ◌↔◌, List, length, get_or, Some, None, Option, sym, ap, ◌∙◌, subst, inl, inr, arith}
+use Rattle.std.proofs.lemmas.Option.{none-some, same_Some}
 use Rattle.std.proofs.lemmas.Bool.{cases_Bool, both_ways, and_parts, and_from, leb-true, le-leb}
 use Rattle.certificates.specs.declared.fault.SheetFault.{SheetFault}
 use Rattle.certificates.specs.declared.fault.SheetFault.TheVariants.{RowCount, NotAsked}
 use Rattle.refinement.proofs.Telling.{off}
 use Rattle.theory.specs.Faults.{first_fault as first}
 use Rattle.certificates.specs.Faults.{Counted, counted, Refused, by_count, by_row, by_asked, sheet_fault}
-use Rattle.certificates.proofs.Firsts.{some_none, or_none, or_some, or_left, or_right, first_none_out, first_none_in, first_some_out, first_some_in}
-
-pub some_inj : {Y : Type 0} {a b : Y} → Some a ≡ Some b → a ≡ b
-some_inj {a} {b} e = cc
+use Rattle.certificates.proofs.Firsts.{or_none, or_some, or_left, or_right, first_none_out, first_none_in, first_some_out, first_some_in}
 
 -- a test, with an answer for either way
 module _ {Y : Type 0} (b : Bool) (y : Option Y) (z : Y) where
   pub cond_none : cond b y (Some z) ≡ None → (b ≡ true) × (y ≡ None)
   cond_none e = elim (cases_Bool b) [
     | inl t ↦ (t, sym (ap (λ v. cond v y (Some z)) t) ∙ e)
-    | inr f ↦ some_none z (sym (ap (λ v. cond v y (Some z)) f) ∙ e)
+    | inr f ↦ absurd (none-some z (sym e ∙ ap (λ v. cond v y (Some z)) f))
   ]
 
   pub cond_some : (f : Y) → cond b y (Some z) ≡ Some f → ((b ≡ true) × (y ≡ Some f)) ⊎ ((b ≡ false) × (f ≡ z))
   cond_some f e = elim (cases_Bool b) [
     | inl t ↦ inl (t, sym (ap (λ v. cond v y (Some z)) t) ∙ e)
-    | inr n ↦ inr (n, some_inj (sym e ∙ ap (λ v. cond v y (Some z)) n))
+    | inr n ↦ inr (n, same_Some _ _ (sym e ∙ ap (λ v. cond v y (Some z)) n))
   ]
 
   pub cond_yes : b ≡ true → cond b y (Some z) ≡ y
@@ -72,7 +70,7 @@ module _ {Row : Type 0} (rows : List Row) (d : Row) (q : ℕ → Row → Option 
     where
       late : Counted (length rows) → (first q 0 rows ≡ None) × (cond asked None (Some NotAsked) ≡ Some f) → Refused (length rows) Passes Fails Asked f
       late c h = elim (cond_some asked None NotAsked f h.1) [
-        | inl w ↦ some_none f (sym w.1)
+        | inl w ↦ absurd (none-some f w.1)
         | inr w ↦ by_asked w.1 c (rows_none_out h.0) (λ a. both_ways asked w.0 (ask.1 a))
       ]
 

@@ -9,8 +9,8 @@ use Rattle.certificates.specs.declared.rows.DifferentRow.{DifferentRow}
 use Rattle.theory.specs.Faults.{first_fault as first}
 use Rattle.certificates.specs.DifferentSheets.{move_at, Cornered}
 use Rattle.certificates.specs.Listings.{cornered, entry_at, entry}
-use Rattle.certificates.proofs.Firsts.{some_none, or_none, or_some, first_none_out, first_some_out}
-use Rattle.certificates.proofs.Checks.{some_inj}
+use Rattle.certificates.proofs.Firsts.{or_none, or_some, first_none_out, first_some_out}
+use Rattle.std.proofs.lemmas.Option.{none-some, same_Some}
 use Rattle.certificates.proofs.Members.{mem_place}
 use Rattle.certificates.proofs.EqualTold.{answered_told}
 
@@ -33,11 +33,11 @@ module _ (ok : ℕ → ℕ → Bool) (N : Lts) (t : ℕ) (m : Move) where
       let w = (answered_told (λ x y. not (ok x y)) (λ x y. ok x y ≡ false) outside N t m).0 e in both_ways (ok m.1 w.0) w.2 (f w.0 w.1)))
 
 when_some : {Y : Type 0} (b : Bool) (y z : Y) → cond b (Some y) None ≡ Some z → (b ≡ true) × (z ≡ y)
-when_some true y z e = (refl, some_inj (sym e))
-when_some false y z e = some_none z (sym e)
+when_some true y z e = (refl, same_Some _ _ (sym e))
+when_some false y z e = absurd (none-some z e)
 
 when_none : {Y : Type 0} (b : Bool) (y : Y) → b ≡ true → cond b (Some y) None ≡ None → ⊥
-when_none b y e h = some_none y (sym (ap (λ v. cond v (Some y) None) e) ∙ h)
+when_none b y e h = none-some y (sym h ∙ ap (λ v. cond v (Some y) None) e)
 
 pub option_cases : {Y : Type 0} (o : Option Y) → (o ≡ None) ⊎ ((y : Y) × (o ≡ Some y))
 option_cases None = inl refl

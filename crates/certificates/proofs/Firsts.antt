@@ -1,15 +1,12 @@
 -- The first answer to a question that is asked in turn.
-use Rattle.std.proofs.Common.{◌≡◌, ℕ, zero, suc, ◌+◌, ◌<◌, ◌≤◌, Bool, true, false, cond, ◌⊎◌, List, [], ◌∷◌, length, get_or, drop, Some, None, filter, Option, sym, refl, ap, ◌∙◌, subst, inl, inr, arith}
-use Rattle.std.proofs.lemmas.List.{at_drop_more, at_drop_all}
+use Rattle.std.proofs.Common.{◌≡◌, ℕ, zero, suc, ◌+◌, ◌<◌, ◌⊎◌, List, [], ◌∷◌, length, get_or, Some, None, Option, sym, refl, ap, ◌∙◌, subst, inl, inr, arith}
+use Rattle.std.proofs.lemmas.Option.{none-some}
 use Rattle.theory.specs.Faults.{or_else, first_fault as first}
 
 module _ {Y : Type 0} where
-  pub some_none : {A : Type 0} (y : Y) → Some y ≡ None → A
-  some_none y e = let z : ◌≡◌ {A = ℕ} 0 1 = cc in absurd (omega arith)
-
   pub or_none : (a b : Option Y) → or_else a b ≡ None → (a ≡ None) × (b ≡ None)
   or_none None b e = (refl, e)
-  or_none (Some x) b e = some_none x e
+  or_none (Some x) b e = absurd (none-some x (sym e))
 
   pub or_some : (a b : Option Y) (y : Y) → or_else a b ≡ Some y → (a ≡ Some y) ⊎ ((a ≡ None) × (b ≡ Some y))
   or_some None b y e = inr (refl, e)
@@ -36,7 +33,7 @@ module _ {X Y : Type 0} (q : ℕ → X → Option Y) (d : X) where
   AnswersAt i xs k y = (k < length xs) × ((j n : ℕ) → i + j ≡ n → j < k → q n (get_or xs j d) ≡ None) × ((n : ℕ) → i + k ≡ n → q n (get_or xs k d) ≡ Some y)
 
   pub first_some_out : (i : ℕ) (xs : List X) (y : Y) → first q i xs ≡ Some y → (k : ℕ) × AnswersAt i xs k y
-  first_some_out i [] y e = some_none y (sym e)
+  first_some_out i [] y e = absurd (none-some y e)
   first_some_out i (x ∷ xs) y e = go (first_some_out (i + 1) xs y) (or_some (q i x) (first q (i + 1) xs) y e)
     where
       go : (first q (i + 1) xs ≡ Some y → (k : ℕ) × AnswersAt (i + 1) xs k y) → (q i x ≡ Some y) ⊎ ((q i x ≡ None) × (first q (i + 1) xs ≡ Some y)) → (k : ℕ) × AnswersAt i (x ∷ xs) k y
@@ -51,35 +48,3 @@ module _ {X Y : Type 0} (q : ℕ → X → Option Y) (d : X) where
   first_some_in i [] y k h = absurd (omega (arith, h.0))
   first_some_in i (x ∷ xs) y zero h = or_left (q i x) (first q (i + 1) xs) y (h.2 i (omega arith))
   first_some_in i (x ∷ xs) y (suc k) h = or_right (q i x) (first q (i + 1) xs) (h.1 0 i (omega arith) (omega arith)) ∙ first_some_in (i + 1) xs y k (omega (arith, h.0), (λ j n a l. h.1 (suc j) n (omega arith) (omega arith)), (λ n a. h.2 n (omega arith)))
-
--- the steps of a loop
-module _ {X Y : Type 0} (q : ℕ → X → Option Y) where
-  module _ (xs : List X) (k : ℕ) (d x : X) (h : k < length xs) (read : get_or xs k d ≡ x) (i : ℕ) where
-    pub first_step : first q i (drop k xs) ≡ or_else (q i x) (first q (i + 1) (drop (k + 1) xs))
-    first_step = at_drop_more (first q i) xs k d h ∙ ap (λ (z : X). or_else (q i z) (first q (i + 1) (drop (k + 1) xs))) read
-
-    pub first_hit : (y : Y) → q i x ≡ Some y → first q i (drop k xs) ≡ Some y
-    first_hit y e = first_step ∙ ap (λ v. or_else v (first q (i + 1) (drop (k + 1) xs))) e
-
-    pub first_miss : q i x ≡ None → first q i (drop k xs) ≡ first q (i + 1) (drop (k + 1) xs)
-    first_miss e = first_step ∙ ap (λ v. or_else v (first q (i + 1) (drop (k + 1) xs))) e
-
-  pub first_end : (xs : List X) (k i : ℕ) → length xs ≤ k → first q i (drop k xs) ≡ None
-  first_end xs k i h = at_drop_all (first q i) xs k h
-
-  -- the same over a list that is filtered as the loop goes
-  module _ (p : X → Bool) (xs : List X) (k : ℕ) (d x : X) (h : k < length xs) (read : get_or xs k d ≡ x) (i : ℕ) where
-    kept_step : first q i (filter p (drop k xs)) ≡ first q i (cond (p x) (x ∷ filter p (drop (k + 1) xs)) (filter p (drop (k + 1) xs)))
-    kept_step = at_drop_more (λ ys. first q i (filter p ys)) xs k d h ∙ ap (λ (z : X). first q i (cond (p z) (z ∷ filter p (drop (k + 1) xs)) (filter p (drop (k + 1) xs)))) read
-
-    pub kept_hit : (y : Y) → p x ≡ true → q i x ≡ Some y → first q i (filter p (drop k xs)) ≡ Some y
-    kept_hit y e f = kept_step ∙ ap (λ b. first q i (cond b (x ∷ filter p (drop (k + 1) xs)) (filter p (drop (k + 1) xs)))) e ∙ ap (λ v. or_else v (first q (i + 1) (filter p (drop (k + 1) xs)))) f
-
-    pub kept_miss : p x ≡ true → q i x ≡ None → first q i (filter p (drop k xs)) ≡ first q (i + 1) (filter p (drop (k + 1) xs))
-    kept_miss e f = kept_step ∙ ap (λ b. first q i (cond b (x ∷ filter p (drop (k + 1) xs)) (filter p (drop (k + 1) xs)))) e ∙ ap (λ v. or_else v (first q (i + 1) (filter p (drop (k + 1) xs)))) f
-
-    pub kept_skip : p x ≡ false → first q i (filter p (drop k xs)) ≡ first q i (filter p (drop (k + 1) xs))
-    kept_skip e = kept_step ∙ ap (λ b. first q i (cond b (x ∷ filter p (drop (k + 1) xs)) (filter p (drop (k + 1) xs)))) e
-
-  pub kept_end : (p : X → Bool) (xs : List X) (k i : ℕ) → length xs ≤ k → first q i (filter p (drop k xs)) ≡ None
-  kept_end p xs k i h = at_drop_all (λ ys. first q i (filter p ys)) xs k h

@@ -3,14 +3,20 @@ use Rattle.std.specs.Prelude.{◌≡◌, ℕ, ◌<◌, ◌≤◌, Bool, cond, �
 use Rattle.certificates.specs.declared.fault.SheetFault.{SheetFault}
 use Rattle.certificates.specs.declared.fault.SheetFault.TheVariants.{RowCount, NoSuchState, NoSuchMove, Unanswered, NotAsked}
 use Rattle.certificates.specs.declared.fault.Report.{Report}
+use Rattle.certificates.specs.declared.side.Side.{Side}
+use Rattle.certificates.specs.declared.side.Side.TheVariants.{Left, Right}
 use Rattle.theory.specs.Faults.{or_else}
+
+abbrev pub side_number : Side → ℕ
+side_number Left = 0
+side_number Right = 1
 
 -- The place is the row, and 0 where a question is not asked by row. A side and a move are named only where one is unanswered.
 abbrev pub report : SheetFault → Report
 report RowCount = record { number = 14; place = 0; side = 0; k = 0 }
 report (NoSuchState row) = record { number = 15; place = row; side = 0; k = 0 }
 report (NoSuchMove row) = record { number = 16; place = row; side = 0; k = 0 }
-report (Unanswered row side k) = record { number = 17; place = row; side = side; k = k }
+report (Unanswered row side k) = record { number = 17; place = row; side = side_number side; k = k }
 report NotAsked = record { number = 18; place = 0; side = 0; k = 0 }
 
 abbrev pub Counted : ℕ → Type 0

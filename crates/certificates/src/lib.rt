@@ -4,6 +4,7 @@
 
 pub mod fault;
 pub mod rows;
+pub mod side;
 
 ghost use Rattle.certificates.specs.DifferentSheets.{DifferentSheets};
 ghost use Rattle.certificates.specs.EqualSheets.{EqualSheets};

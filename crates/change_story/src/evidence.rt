@@ -1,115 +1,145 @@
 // What the comparer finds out about the table: sheets that it writes for two of its states.
 use anyhow::anyhow;
+use certificates::fault::SheetFault;
 use certificates::rows::{DifferentRow, EqualRow};
-use comparison::comparison::{Open, Settled, Step};
+use comparison::comparison::Settled;
 use layers::standing::Standing;
 use sheets::different::check_different;
 use sheets::equal::check_equal;
+use std::alloc::Global;
+use std::io;
 use systems::table::Table;
+use verdicts::settling::settle;
 use writers::different::write_different;
 use writers::equal::write_equal;
+use writers::refusal::WriteRefusal;
+
+// The pairs of the table's states: no sheet that is written has more rows.
+const PAIRS: usize = 121;
 
 // The table compared with itself, to the end.
-pub fn compare(table: &Table, cells: &mut [u32]) -> anyhow::Result<Settled<Standing>> {
-    let mut current = match Open::<Standing>::begin(table, table, cells) {
-        Ok(begun) => begun,
-        Err(_) => return Err(anyhow!("the table cannot be compared")),
+#[derive(Drop)]
+pub struct Found<'a> {
+    table: &'a Table,
+    cells: Vec<u32>,
+    settled: Settled<Standing>,
+}
+
+// A row of one of the two kinds of sheets.
+pub trait SheetRow: Copy {
+    const KIND: &'static str;
+
+    const BLANK: Self;
+
+    fn print(self, rt: &impl Print) -> io::Result<()>;
+
+    fn write(
+        found: &Found<'_>,
+        s: usize,
+        t: usize,
+        rows: &mut [Self],
+    ) -> Result<usize, WriteRefusal>;
+
+    fn check(table: &Table, s: usize, t: usize, rows: &[Self]) -> Result<(), SheetFault>;
+}
+
+impl SheetRow for EqualRow {
+    const KIND: &'static str = "equal";
+
+    const BLANK: EqualRow = EqualRow { left: 0, right: 0 };
+
+    fn print(self, rt: &impl Print) -> io::Result<()> {
+        print!(rt; " {},{}", self.left, self.right)
+    }
+
+    fn write(
+        found: &Found<'_>,
+        s: usize,
+        t: usize,
+        rows: &mut [EqualRow],
+    ) -> Result<usize, WriteRefusal> {
+        let table = found.table;
+        write_equal(&found.settled, table, table, &found.cells, s, t, rows)
+    }
+
+    fn check(table: &Table, s: usize, t: usize, rows: &[EqualRow]) -> Result<(), SheetFault> {
+        check_equal::<Standing, Table, Table>(table, table, rows, s, t)
+    }
+}
+
+impl SheetRow for DifferentRow {
+    const KIND: &'static str = "different";
+
+    const BLANK: DifferentRow = DifferentRow {
+        left: 0,
+        right: 0,
+        side: 0,
+        k: 0,
     };
-    for _ in 0..122 {
-        match current.sweep(table, table, cells) {
-            Ok(step) => match step {
-                Step::Again(next) => current = next,
-                Step::Done(settled) => return Ok(settled),
-            },
-            Err(_) => return Err(anyhow!("a sweep was refused")),
+
+    fn print(self, rt: &impl Print) -> io::Result<()> {
+        print!(rt; " {},{},{},{}", self.left, self.right, self.side, self.k)
+    }
+
+    fn write(
+        found: &Found<'_>,
+        s: usize,
+        t: usize,
+        rows: &mut [DifferentRow],
+    ) -> Result<usize, WriteRefusal> {
+        let table = found.table;
+        write_different(&found.settled, table, table, &found.cells, s, t, rows)
+    }
+
+    fn check(table: &Table, s: usize, t: usize, rows: &[DifferentRow]) -> Result<(), SheetFault> {
+        check_different::<Standing, Table, Table>(table, table, rows, s, t)
+    }
+}
+
+impl<'a> Found<'a> {
+    pub fn of(heap: Global, table: &'a Table) -> anyhow::Result<Found<'a>> {
+        let mut cells = vec![in heap; 0u32; PAIRS]?;
+        let settled = settle::<Standing, Table, Table>(table, table, &mut cells).map_err(
+            |_| anyhow!("the table cannot be compared"),
+        )?;
+        Ok(Found {
+            table,
+            cells,
+            settled,
+        })
+    }
+
+    // Has a sheet of two states written, prints it, and checks it as anybody can. The answer is the sheet, which has no rows if
+    // none is written.
+    pub fn show<R: SheetRow>(
+        &self,
+        rt: &HostRuntime,
+        s: usize,
+        t: usize,
+    ) -> anyhow::Result<Vec<R>> {
+        let mut rows = vec![in rt.alloc(); R::BLANK; PAIRS]?;
+        match R::write(self, s, t, &mut rows) {
+            Err(refusal) => {
+                println!(rt;
+                    "  no {} sheet is written: refused {}",
+                    R::KIND,
+                    refusal.number()
+                )?;
+                rows.clear();
+            }
+            Ok(count) => {
+                rows.truncate(count);
+                print!(rt; "  {} sheet:", R::KIND)?;
+                for row in &rows {
+                    row.print(rt)?;
+                }
+                println!(rt)?;
+                match R::check(self.table, s, t, &rows) {
+                    Ok(()) => println!(rt; "  it is accepted for {s} and {t}")?,
+                    Err(_) => println!(rt; "  it is refused")?,
+                }
+            }
         }
+        Ok(rows)
     }
-    Err(anyhow!("not settled"))
-}
-
-fn print_pairs(rt: &impl Print, rows: &[EqualRow]) -> anyhow::Result<()> {
-    print!(rt; "  equal sheet:")?;
-    for row in rows {
-        let left = row.left;
-        let right = row.right;
-        print!(rt; " {left},{right}")?;
-    }
-    println!(rt; "")?;
-    Ok(())
-}
-
-fn print_moves(rt: &impl Print, rows: &[DifferentRow]) -> anyhow::Result<()> {
-    print!(rt; "  different sheet:")?;
-    for row in rows {
-        let left = row.left;
-        let right = row.right;
-        let side = row.side;
-        let k = row.k;
-        print!(rt; " {left},{right},{side},{k}")?;
-    }
-    println!(rt; "")?;
-    Ok(())
-}
-
-// Writes the equal sheet of two states into the rows, prints it, and checks it as anybody can. The answer is how many rows it
-// has: none if the states are not equal.
-pub fn show_equal(
-    rt: &impl Print,
-    table: &Table,
-    cells: &[u32],
-    settled: &Settled<Standing>,
-    s: usize,
-    t: usize,
-    rows: &mut [EqualRow],
-) -> anyhow::Result<usize> {
-    let count = match write_equal::<Standing, Table, Table>(
-        settled, table, table, cells, s, t, rows,
-    ) {
-        Ok(count) => count,
-        Err(refusal) => {
-            let number = refusal.number();
-            println!(rt; "  no equal sheet is written: refused {number}")?;
-            return Ok(0);
-        }
-    };
-    let Some(sheet) = rows.get(0..count) else {
-        return Err(anyhow!("more rows than there are"));
-    };
-    print_pairs(rt, sheet)?;
-    match check_equal::<Standing, Table, Table>(table, table, sheet, s, t) {
-        Ok(()) => println!(rt; "  it is accepted for {s} and {t}")?,
-        Err(_) => println!(rt; "  it is refused")?,
-    }
-    Ok(count)
-}
-
-// The same for a different sheet.
-pub fn show_different(
-    rt: &impl Print,
-    table: &Table,
-    cells: &[u32],
-    settled: &Settled<Standing>,
-    s: usize,
-    t: usize,
-    rows: &mut [DifferentRow],
-) -> anyhow::Result<()> {
-    let count = match write_different::<Standing, Table, Table>(
-        settled, table, table, cells, s, t, rows,
-    ) {
-        Ok(count) => count,
-        Err(refusal) => {
-            let number = refusal.number();
-            println!(rt; "  no different sheet is written: refused {number}")?;
-            return Ok(());
-        }
-    };
-    let Some(sheet) = rows.get(0..count) else {
-        return Err(anyhow!("more rows than there are"));
-    };
-    print_moves(rt, sheet)?;
-    match check_different::<Standing, Table, Table>(table, table, sheet, s, t) {
-        Ok(()) => println!(rt; "  it is accepted for {s} and {t}")?,
-        Err(_) => println!(rt; "  it is refused")?,
-    }
-    Ok(())
 }

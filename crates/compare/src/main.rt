@@ -10,7 +10,7 @@ const MOST_READ: u64 = 11786;
 fn main(rt: HostRuntime) -> anyhow::Result<()> {
     let mut bytes = Vec::new(rt.alloc());
     rt.stdin().take(MOST_READ).read_to_end(&mut bytes)?;
-    let answer = compare_file(rt.alloc(), bytes.as_slice())?;
+    let answer = compare_file(rt.alloc(), &bytes)?;
     println!(rt; "{answer}")?;
     Ok(())
 }

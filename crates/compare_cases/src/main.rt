@@ -7,8 +7,8 @@ use std::{env, fs};
 
 fn main(rt: HostRuntime) -> anyhow::Result<()> {
     for name in env::args(&rt)?.skip(1) {
-        let bytes = fs::read(&rt, name.as_str())?;
-        let answer = compare_file(rt.alloc(), bytes.as_slice())?;
+        let bytes = fs::read(&rt, &name)?;
+        let answer = compare_file(rt.alloc(), &bytes)?;
         println!(rt; "{name} {answer}")?;
     }
     Ok(())

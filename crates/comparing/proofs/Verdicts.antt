@@ -1,14 +1,14 @@
 -- From what a comparison decides to what is answered.
 use Rattle.std.proofs.Common.{◌≡◌, ℕ, ◌+◌, ◌*◌, ◌<◌, ◌≤◌, Bool, true, false, cond, ◌&&◌, ltb, leb, List, length, get_or, Some, None, Option, sym, refl, ap, ◌∙◌, subst, arith}
-use Rattle.std.proofs.lemmas.Bool.{eqb-true, eq-eqb, and_from, lt-ltb, leb-true, leb-false}
+use Rattle.std.proofs.lemmas.Bool.{eqb-true, eq-eqb, and_from, lt-ltb, leb-true}
 use Rattle.theory.specs.Systems.{Lts}
 use Rattle.theory.specs.Layers.{standing, standing_layer}
-use Rattle.theory.specs.Designs.{Design, EqualDesigns}
-use Rattle.refinement.specs.Rounds.{StruckIn, Rounds}
+use Rattle.theory.specs.Designs.{Design}
+use Rattle.refinement.specs.Rounds.{Rounds}
 use Rattle.comparison.specs.declared.comparison.Refusal.{Refusal}
 use Rattle.comparison.specs.declared.comparison.Refusal.TheVariants.{Outsize, FewCells, NoSuchState}
 use Rattle.comparison.specs.declared.comparison.Verdict.{Verdict}
-use Rattle.comparison.specs.declared.comparison.Verdict.TheVariants.{Equal, Different}
+use Rattle.comparison.specs.declared.comparison.Verdict.TheVariants.{Equal}
 use Rattle.designs.specs.Nodes.{forms, written}
 use Rattle.designs.specs.Checks.{Passed}
 use Rattle.designs.specs.declared.node.Node.{Node}
@@ -44,17 +44,8 @@ module _ (n1 n2 s t : ℕ) (hs : s < n1) (ht : t < n2) where
   enough true e = refl
   enough false e = let z : ◌≡◌ {A = ℕ} 0 1 = cc in let w : ⊥ = omega arith in elim w [ ]
 
-  few : (b : Bool) (f : Refusal) → cond b None (Some FewCells) ≡ Some f → (b ≡ false) × (FewCells ≡ f)
-  few true f e = let z : ◌≡◌ {A = ℕ} 0 1 = cc in let w : ⊥ = omega arith in elim w [ ]
-  few false f e = (refl, cc)
-
   pub room : (len : ℕ) → decide_fault n1 n2 len s t ≡ None → n1 * n2 ≤ len
   room len e = leb-true (n1 * n2) len (enough (leb (n1 * n2) len) (sym (decide_asks len) ∙ e))
-
-  pub refusal : (len : ℕ) (f : Refusal) → decide_fault n1 n2 len s t ≡ Some f → (len < n1 * n2) × (FewCells ≡ f)
-  refusal len f e =
-      let b = few (leb (n1 * n2) len) f (sym (decide_asks len) ∙ e) in
-      (leb-false (n1 * n2) len b.0, b.1)
 
 -- the zero cells are the equal pairs
 pub pairs_equal : (d e : Design) (cells : List ℕ) → Final standing_layer d.sys e.sys cells → EqualPairs d e (passing (is_zero cells) (d.sys.n * e.sys.n))
@@ -71,12 +62,6 @@ final_by A B old s t new e h = go (decide_fault A.n B.n (length old) s t) e h wh
   go : (o : Option Refusal) → o ≡ None → LeftBy o standing_layer A B old new → Final standing_layer A B new
   go None e h = h.0
   go (Some f) e h = let z : ◌≡◌ {A = ℕ} 0 1 = cc in let w : ⊥ = omega arith in elim w [ ]
-
-never_both : (v : Verdict) (n : ℕ) → v ≡ Equal → v ≡ Different n → ⊥
-never_both v n p q = let z : ◌≡◌ {A = ℕ} 0 1 = cc in omega arith
-
-pub different : (d e : Design) (v : Verdict) (n : ℕ) → v ≡ Different n → TrueOf standing_layer d.sys e.sys d.start e.start v → (EqualDesigns d e → ⊥) × StruckIn (standing d.sys) (standing e.sys) n d.start e.start
-different d e v n is h = (λ q. never_both v n (h.0.1 q) is, (h.1 n).0 is)
 
 -- a decision between the starts s and t of the designs d and e, with 16384 cells
 module _ (d e : Design) (s t : ℕ) (old cells : List ℕ) (size : length old ≡ 16384) (es : s ≡ d.start) (et : t ≡ e.start) (hd : d.start < d.sys.n) (he : e.start < e.sys.n) where
@@ -104,12 +89,6 @@ module _ (d e : Design) (s t : ℕ) (old cells : List ℕ) (size : length old �
         subst (EqualPairs d e) (sym count) (pairs_equal d e cells (final_by d.sys e.sys old s t cells ok left)),
       ),
     )
-
-    pub settles_different : (n : ℕ) → v ≡ Different n → Settles d e (answers.Different sweeps n)
-    settles_different n is = let w = different d e v n is starts_true in (fits, (w.0, rounds, w.1))
-
-  pub settles_few : (f : Refusal) → decide_fault d.sys.n e.sys.n (length old) s t ≡ Some f → Settles d e (answers.Refused faults.FewCells)
-  settles_few f h = omega (arith, (refusal d.sys.n e.sys.n s t hs ht (length old) f h).0)
 
 pub settles_as : {d d' e e' : Design} (a : Answer) → d ≡ d' → e ≡ e' → Settles d e a → Settles d' e' a
 settles_as {d} {d'} {e} {e'} a p q h = subst (λ (x : Design). Settles d' x a) q (subst (λ (x : Design). Settles x e a) p h)

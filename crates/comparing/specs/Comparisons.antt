@@ -9,10 +9,14 @@ use Rattle.designs.specs.Checks.{Passed}
 use Rattle.designs.specs.Checks as checks
 use Rattle.files.specs.Layouts.{first_nodes, second_nodes}
 use Rattle.files.specs.Refusals.{file_fault}
+use Rattle.files.specs.declared.refusal.ReadFault.{ReadFault}
+use Rattle.files.specs.declared.refusal.ReadFault.TheVariants as reads
 use Rattle.comparing.specs.Zeros.{passing}
 use Rattle.comparing.specs.declared.answer.Answer.{Answer}
 use Rattle.comparing.specs.declared.answer.Answer.TheVariants.{Equal, Different, Refused}
 use Rattle.comparing.specs.declared.answer.FileFault.TheVariants.{File, First, Second, FewCells}
+use Rattle.comparing.specs.declared.stop.Stop.{Stop}
+use Rattle.comparing.specs.declared.stop.Stop.TheVariants.{Fault, Memory}
 
 abbrev pub left : List ℕ → Design
 left bytes = written (first_nodes bytes)
@@ -58,6 +62,16 @@ Answered bytes (Refused (File f)) = file_fault bytes ≡ Some f
 Answered bytes (Refused (First f)) = (file_fault bytes ≡ None) × checks.Refused (first_nodes bytes) f
 Answered bytes (Refused (Second f)) = (file_fault bytes ≡ None) × Passed (first_nodes bytes) × checks.Refused (second_nodes bytes) f
 Answered bytes (Refused FewCells) = (file_fault bytes ≡ None) × Passed (first_nodes bytes) × Passed (second_nodes bytes) × (16384 < (left bytes).sys.n * (right bytes).sys.n)
+
+-- why no comparison is made, for a file that gives no nodes
+abbrev pub stop_of : ReadFault → Stop
+stop_of (reads.File f) = Fault (File f)
+stop_of (reads.Memory e) = Memory e
+
+-- what stops is what is answered, unless memory is wanting
+abbrev pub Stops : List ℕ → Stop → Type 0
+Stops bytes (Fault f) = Answered bytes (Refused f)
+Stops bytes (Memory e) = Unit {0}
 
 abbrev pub SaysEqual : Answer → Type 0
 SaysEqual (Equal sweeps zeros) = Unit {0}

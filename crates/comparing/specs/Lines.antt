@@ -26,7 +26,11 @@ node_number (First f) = nodes.place f
 node_number (Second f) = nodes.place f
 node_number FewCells = 0
 
+-- a refusal by these three numbers
+abbrev pub place : FileFault → List ℕ
+place f = decimal (number f) ++ (codes " " ++ (decimal (design_number f) ++ (codes " " ++ decimal (node_number f))))
+
 abbrev pub line : Answer → List ℕ
 line (Equal sweeps zeros) = codes "equal " ++ (decimal sweeps ++ (codes " " ++ decimal zeros))
 line (Different sweeps round) = codes "different " ++ (decimal sweeps ++ (codes " " ++ decimal round))
-line (Refused f) = codes "refused " ++ (decimal (number f) ++ (codes " " ++ (decimal (design_number f) ++ (codes " " ++ decimal (node_number f)))))
+line (Refused f) = codes "refused " ++ place f

@@ -11,7 +11,8 @@ pub enum FileFault {
 }
 
 // The designs are equal, with the sweeps made and the number of equal pairs of states; or they are different, with the
-// sweeps made and the round that struck the starts; or they cannot be compared.
+// sweeps made and the round that struck the starts; or they cannot be compared, which is an answer to print like the others
+// and no Err.
 #[derive(Clone, Copy)]
 pub enum Answer {
     Equal(u32, usize),

@@ -1,32 +1,21 @@
-ghost use Rattle.std.specs.Prelude.{IfOk};
-ghost use Rattle.comparing.specs.Comparisons.{Answered, Exact};
+ghost use Rattle.std.specs.Prelude.{MatchResult, IfOk};
+ghost use Rattle.comparing.specs.Comparisons.{Answered, Stops, Exact};
 
 use super::answer::{Answer, FileFault};
 use super::judging::compare_nodes;
+use super::stop::Stop;
 use designs::check::check_nodes;
 use files::reader::read_designs;
-use files::refusal::ReadFault;
 use std::alloc::{AllocError, Global};
 
 // Asks the file's questions, then those of the first design and of the second, and then compares.
-fn asked(heap: Global, bytes: &[u8]) -> Result<Answer, AllocError>
-    ensures { IfOk result (λ a. Answered bytes.now a) }
+fn asked(heap: Global, bytes: &[u8]) -> Result<Answer, Stop>
+    ensures { MatchResult result (λ a. Answered bytes.now a) (λ e. Stops bytes.now e) }
 {
-    match read_designs(heap, bytes) {
-        Err(ReadFault::Memory(e)) => Err(e),
-        Err(ReadFault::File(f)) => Ok(Answer::Refused(FileFault::File(f))),
-        Ok(pair) => {
-            let first = pair.first.as_slice();
-            let second = pair.second.as_slice();
-            if let Err(f) = check_nodes(first) {
-                return Ok(Answer::Refused(FileFault::First(f)));
-            }
-            if let Err(g) = check_nodes(second) {
-                return Ok(Answer::Refused(FileFault::Second(g)));
-            }
-            compare_nodes(heap, first, second)
-        }
-    }
+    let pair = read_designs(heap, bytes)?;
+    check_nodes(pair.first.as_slice()).map_err(FileFault::First)?;
+    check_nodes(pair.second.as_slice()).map_err(FileFault::Second)?;
+    Ok(compare_nodes(heap, &pair)?)
 }
 
 // Whether the two designs in a file are equal. Only memory can be wanting.
@@ -34,5 +23,9 @@ pub fn compare_file(heap: Global, bytes: &[u8]) -> Result<Answer, AllocError>
     ensures answered { IfOk result (λ a. Answered bytes.now a) }
     ensures exact { IfOk result (λ a. Exact bytes.now a) }
 {
-    asked(heap, bytes)
+    match asked(heap, bytes) {
+        Ok(answer) => Ok(answer),
+        Err(Stop::Fault(fault)) => Ok(Answer::Refused(fault)),
+        Err(Stop::Memory(e)) => Err(e),
+    }
 }

@@ -5,4 +5,4 @@ pub mod answer;
 pub mod asking;
 mod judging;
 pub mod printing;
-mod zeros;
+mod stop;

@@ -1,50 +1,21 @@
-ghost use Rattle.std.specs.Prelude.{◌+◌, ◌*◌, ◌≤◌};
-
+use progress::Progress;
 use std::marker::PhantomData;
 
-// A comparison under the layer Y that is not settled: how many states the two systems have, and how many sweeps were made.
-// The cells are handed in at each call.
+// A comparison under the layer Y that is not settled. The cells are handed in at each call.
+#[derive(Drop)]
 pub struct Open<Y> {
-    n1: usize,
-    n2: usize,
-    made: u32,
+    progress: Progress,
     layer: PhantomData<Y>,
-    ghost few: { n1 * n2 ≤ 1048576 },
-    ghost bound: { made ≤ n1 * n2 + 1 },
 }
 
 // A comparison whose last sweep wrote no cell. Only such a one can be asked for a verdict.
+#[derive(Drop)]
 pub struct Settled<Y> {
-    n1: usize,
-    n2: usize,
-    made: u32,
+    progress: Progress,
     layer: PhantomData<Y>,
-    ghost few: { n1 * n2 ≤ 1048576 },
-    ghost bound: { made ≤ n1 * n2 + 1 },
 }
 
-impl<Y> Drop for Open<Y> {
-    fn drop(self) {
-        let Open {
-            n1: _,
-            n2: _,
-            made: _,
-            layer: _,
-        } = self;
-    }
-}
-
-impl<Y> Drop for Settled<Y> {
-    fn drop(self) {
-        let Settled {
-            n1: _,
-            n2: _,
-            made: _,
-            layer: _,
-        } = self;
-    }
-}
-
+// What a sweep makes of an open comparison: both are outcomes, and neither a failure as the words of Result would have it.
 #[derive(Drop)]
 pub enum Step<Y> {
     Again(Open<Y>),
@@ -60,7 +31,8 @@ pub enum Refusal {
     NoSuchState,
 }
 
-// The states are equal, or a round struck their pair.
+// The states are equal, or a round struck their pair: neither is a failure or the lack of an answer, as the words of Option
+// and Result would have it.
 #[derive(Clone, Copy, PartialEq, Eq, Debug)]
 pub enum Verdict {
     Equal,
@@ -69,5 +41,9 @@ pub enum Verdict {
 
 mod asked;
 mod begin;
+mod check;
 mod numbers;
+mod progress;
 mod sweep;
+
+pub use check::check_begin;

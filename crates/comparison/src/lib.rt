@@ -2,5 +2,6 @@
 #![tactic(auto)]
 
 pub mod comparison;
+pub mod pairs;
 mod pass;
-mod strike;
+mod unstruck;

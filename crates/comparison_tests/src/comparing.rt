@@ -1,52 +1,11 @@
 use comparison::comparison::{Open, Refusal, Settled, Step, Verdict};
+use example_tables::choice::{EARLY, LATE};
+use example_tables::small::LOOP;
 use layers::standing::Standing;
 use std::test::Fail;
-use systems::rows::Row;
 use systems::table::Table;
 
-// a.(b.0 + c.0), its states numbered from the last
-const LATE: [Row; 3] = [
-    Row {
-        from: 2,
-        code: 4,
-        to: 1,
-    },
-    Row {
-        from: 1,
-        code: 8,
-        to: 0,
-    },
-    Row {
-        from: 1,
-        code: 12,
-        to: 0,
-    },
-];
-
-// a.b.0 + a.c.0, likewise
-const EARLY: [Row; 4] = [
-    Row {
-        from: 3,
-        code: 4,
-        to: 2,
-    },
-    Row {
-        from: 3,
-        code: 4,
-        to: 1,
-    },
-    Row {
-        from: 2,
-        code: 8,
-        to: 0,
-    },
-    Row {
-        from: 1,
-        code: 12,
-        to: 0,
-    },
-];
-
+// Sweeps to the end a comparison that a test began, and may have written into: 13 sweeps are enough for 12 pairs.
 fn settled(
     open: Open<Standing>,
     left: &Table,
@@ -55,12 +14,10 @@ fn settled(
 ) -> Result<Settled<Standing>, Fail> {
     let mut current = open;
     for _ in 0..13 {
-        match current.sweep(left, right, cells) {
-            Ok(step) => match step {
-                Step::Again(next) => current = next,
-                Step::Done(done) => return Ok(done),
-            },
-            Err(_) => return Err(Fail::new("a sweep was refused")),
+        let step = current.sweep(left, right, cells);
+        match step.map_err(|refused| refused.0)? {
+            Step::Again(next) => current = next,
+            Step::Done(done) => return Ok(done),
         }
     }
     Err(Fail::new("not settled"))
@@ -97,10 +54,8 @@ fn too_few_cells_are_refused(rt: HostRuntime) -> Result<(), Fail> {
     let left = Table::new(rt.alloc(), 3, &LATE)?;
     let right = Table::new(rt.alloc(), 4, &EARLY)?;
     let mut cells = [7; 11];
-    match Open::<Standing>::begin(&left, &right, &mut cells) {
-        Ok(_) => return Err(Fail::new("begun")),
-        Err(refusal) => assert_eq!(rt; refusal.number(), 11),
-    }
+    let begun = Open::<Standing>::begin(&left, &right, &mut cells);
+    assert_eq!(rt; begun.err().map(|refusal| refusal.number()), Some(11));
     assert_eq!(rt; cells[0], 7);
     Ok(())
 }
@@ -110,10 +65,8 @@ fn an_outsize_system_is_refused(rt: HostRuntime) -> Result<(), Fail> {
     let left = Table::new(rt.alloc(), 0, &LATE)?;
     let right = Table::new(rt.alloc(), 4, &EARLY)?;
     let mut cells = [7; 12];
-    match Open::<Standing>::begin(&left, &right, &mut cells) {
-        Ok(_) => return Err(Fail::new("begun")),
-        Err(refusal) => assert_eq!(rt; refusal.number(), 10),
-    }
+    let begun = Open::<Standing>::begin(&left, &right, &mut cells);
+    assert_eq!(rt; begun.err().map(|refusal| refusal.number()), Some(10));
     assert_eq!(rt; cells[0], 7);
     Ok(())
 }
@@ -141,49 +94,34 @@ fn a_refused_sweep_gives_the_comparison_back(rt: HostRuntime) -> Result<(), Fail
     let right = Table::new(rt.alloc(), 4, &EARLY)?;
     let mut cells = [0; 12];
     let open = Open::<Standing>::begin(&left, &right, &mut cells)?;
-    match open.sweep(&right, &left, &mut cells) {
-        Ok(_) => Err(Fail::new("swept")),
-        Err(refused) => {
-            assert_eq!(rt; refused.0, Refusal::OtherSizes);
-            assert_eq!(rt; cells[4], 0);
-            let done = settled(refused.1, &left, &right, &mut cells)?;
-            assert_eq!(rt; done.sweeps(), 3);
-            Ok(())
-        }
+    let swept = open.sweep(&right, &left, &mut cells);
+    let refused = swept.err().ok_or("swept")?;
+    assert_eq!(rt; refused.0, Refusal::OtherSizes);
+    assert_eq!(rt; cells[4], 0);
+    let done = settled(refused.1, &left, &right, &mut cells)?;
+    assert_eq!(rt; done.sweeps(), 3);
+    Ok(())
+}
+
+fn swept(open: Open<Standing>, left: &Table, right: &Table) -> Result<Open<Standing>, Refusal> {
+    let mut cells = [0; 1];
+    let step = open.sweep(left, right, &mut cells);
+    match step.map_err(|refused| refused.0)? {
+        Step::Again(next) => Ok(next),
+        Step::Done(_) => Err(Refusal::Outsize),
     }
 }
 
 // One state with a transition to itself, and one with none: their pair is struck in every round that finds its cell zero.
-const LOOP: [Row; 1] = [Row {
-    from: 0,
-    code: 4,
-    to: 0,
-}];
-
-fn swept(open: Open<Standing>, left: &Table, right: &Table) -> Result<Open<Standing>, Refusal> {
-    let mut cells = [0; 1];
-    match open.sweep(left, right, &mut cells) {
-        Ok(step) => match step {
-            Step::Again(next) => Ok(next),
-            Step::Done(_) => Err(Refusal::Outsize),
-        },
-        Err(refused) => Err(refused.0),
-    }
-}
-
 #[test]
 fn no_more_sweeps_are_made_than_pairs_and_one(rt: HostRuntime) -> Result<(), Fail> {
-    let left = Table::new(rt.alloc(), 1, &LOOP)?;
+    let left = Table::new(rt.alloc(), 1, &[LOOP])?;
     let right = Table::new(rt.alloc(), 1, &[])?;
     let mut cells = [0; 1];
     let open = Open::<Standing>::begin(&left, &right, &mut cells)?;
     let once = swept(open, &left, &right)?;
     let twice = swept(once, &left, &right)?;
-    match swept(twice, &left, &right) {
-        Ok(_) => Err(Fail::new("swept once more")),
-        Err(refusal) => {
-            assert_eq!(rt; refusal.number(), 13);
-            Ok(())
-        },
-    }
+    let thrice = swept(twice, &left, &right);
+    assert_eq!(rt; thrice.err().map(|refusal| refusal.number()), Some(13));
+    Ok(())
 }

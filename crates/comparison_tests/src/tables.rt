@@ -1,33 +1,14 @@
+use example_tables::rows;
+use example_tables::small::LOOP;
 use std::test::Fail;
-use systems::rows::{Row, RowRefusal, check_rows};
+use systems::rows::{RowRefusal, check_rows};
 use systems::system::System;
 use systems::table::Table;
 
-const LOOP: Row = Row {
-    from: 0,
-    code: 4,
-    to: 0,
-};
-
 #[test]
 fn rows_are_refused_by_number_and_place(rt: HostRuntime) {
-    let past = [
-        LOOP,
-        Row {
-            from: 0,
-            code: 4,
-            to: 2,
-        },
-    ];
-    let unlawful = [
-        LOOP,
-        LOOP,
-        Row {
-            from: 0,
-            code: 244,
-            to: 1,
-        },
-    ];
+    let past = rows![(0, 4, 0), (0, 4, 2)];
+    let unlawful = rows![(0, 4, 0), (0, 4, 0), (0, 244, 1)];
     assert_eq!(rt; check_rows(0, &[]), Err(RowRefusal::StateCount));
     assert_eq!(rt; check_rows(1025, &[]), Err(RowRefusal::StateCount));
     assert_eq!(rt; check_rows(1024, &[]), Ok(()));
@@ -62,28 +43,7 @@ fn a_table_of_4097_rows_is_outsize(rt: HostRuntime) -> Result<(), Fail> {
 
 #[test]
 fn faulty_rows_are_no_moves(rt: HostRuntime) -> Result<(), Fail> {
-    let rows = [
-        Row {
-            from: 0,
-            code: 3,
-            to: 1,
-        },
-        Row {
-            from: 0,
-            code: 4,
-            to: 1,
-        },
-        Row {
-            from: 1,
-            code: 4,
-            to: 2,
-        },
-        Row {
-            from: 2,
-            code: 4,
-            to: 0,
-        },
-    ];
+    let rows = rows![(0, 3, 1), (0, 4, 1), (1, 4, 2), (2, 4, 0)];
     let table = Table::new(rt.alloc(), 2, &rows)?;
     assert_eq!(rt; table.count(0), 1);
     assert_eq!(rt; table.count(1), 0);

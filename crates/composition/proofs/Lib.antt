@@ -1,4 +1,3 @@
 pub mod Sizes
-pub mod Sums
 pub mod Synchronised
 pub mod Pairs

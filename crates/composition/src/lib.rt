@@ -1,7 +1,6 @@
 // The operators that make larger systems: nil, prefix, sum and parallel.
 #![tactic(auto)]
 
-mod limits;
 mod meetings;
 pub mod nil;
 pub mod parallel;

@@ -1,23 +1,23 @@
-ghost use Rattle.std.specs.Prelude.{◌≡◌, nat_lt};
-ghost use Rattle.theory.specs.Operators.{prefix};
+ghost use Rattle.std.specs.Prelude.{◌≡◌};
 ghost use Rattle.theory.specs.Limits.{prefix_limited};
 ghost use Rattle.theory.proofs.OperatorLaws.{prefix_lawful};
 ghost use Rattle.rules.specs.Rules.{PrefixRule};
 ghost use Rattle.rules.specs.Derived.{FollowsWithin};
 ghost use Rattle.composition.specs.Sizes.{SizeOf};
 
-use super::limits::sized;
-use super::placed::nth_placed;
+use super::placed::Place;
 use super::size::Size;
 use actions::action::Action;
 use systems::system::System;
 
 // An action, and then a system from its start. State 0 does the action and goes to the start; state 1 + s is s below.
 #[derive(Drop)]
-pub struct Prefix<S> {
+pub struct Prefix<S: System> {
     action: Action,
     start: usize,
     below: S,
+    size: Size,
+    ghost measured: { SizeOf (prefix_limited action.code start (S.System.meaning below)) size },
 }
 
 impl<S: System> Prefix<S> {
@@ -25,19 +25,17 @@ impl<S: System> Prefix<S> {
         ensures parts { (result.action ≡ action) × (result.start ≡ start) × (result.below ≡ below) }
         ensures rules { FollowsWithin (prefix_limited result.action.code result.start (S.System.meaning result.below)) (PrefixRule action.code start (S.System.meaning below)) }
     {
+        let n = below.states();
+        let size = Size {
+            states: n + 1,
+            width: below.width().max(1),
+        };
         Prefix {
             action,
             start,
             below,
+            size: size.limited(start < n),
         }
-    }
-
-    fn size(&self) -> Option<Size>
-        ensures { SizeOf (nat_lt self.now.start (S.System.meaning self.now.below).n) (prefix self.now.action.code self.now.start (S.System.meaning self.now.below)) result }
-    {
-        let n = self.below.states();
-        let w = self.below.width();
-        sized(self.start < n, n + 1, if w == 0 { 1 } else { w })
     }
 }
 
@@ -47,21 +45,15 @@ impl<S: System> System for Prefix<S> {
     ghost lawful = { λ x. prefix_lawful x.action.code x.start (S.System.meaning x.below) x.action.lawful (S.System.lawful x.below) };
 
     fn states(&self) -> usize {
-        match self.size() {
-            Some(size) => size.states,
-            None => 0,
-        }
+        self.size.states
     }
 
     fn width(&self) -> usize {
-        match self.size() {
-            Some(size) => size.width,
-            None => 0,
-        }
+        self.size.width
     }
 
     fn count(&self, s: usize) -> usize {
-        if self.size().is_none() {
+        if s >= self.size.states {
             0
         } else if s == 0 {
             1
@@ -71,10 +63,10 @@ impl<S: System> System for Prefix<S> {
     }
 
     fn nth(&self, s: usize, k: usize) -> Option<(Action, usize)> {
-        if self.size().is_none() {
+        if s >= self.size.states {
             None
         } else if s > 0 {
-            nth_placed(&self.below, s - 1, k, 1, 1)
+            Place::after(1).nth(&self.below, s - 1, k)
         } else if k == 0 {
             Some((self.action, self.start + 1))
         } else {

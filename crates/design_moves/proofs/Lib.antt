@@ -1,3 +1,4 @@
-pub mod Appending
 pub mod Arms
+pub mod Meetings
+pub mod Targets
 pub mod Wholes

@@ -3,6 +3,7 @@
 
 mod joining;
 mod listing;
+mod making;
 mod moves;
 mod placing;
 pub mod written;

@@ -1,6 +1,6 @@
 -- From the nodes that were looked at to what the check answers.
-use Rattle.std.proofs.Common.{◌≡◌, ℕ, ◌+◌, ◌<◌, ◌≤◌, Bool, true, false, cond, leb, List, length, get_or, Some, None, sym, refl, ap, ◌∙◌, subst, inl, inr, arith}
-use Rattle.std.proofs.lemmas.List.{get_or_default}
+use Rattle.std.proofs.Common.{◌≡◌, ℕ, ◌+◌, ◌<◌, ◌≤◌, Bool, true, false, cond, leb, List, length, get_or, take, Some, None, sym, ap, ◌∙◌, subst, inl, inr, arith}
+use Rattle.std.proofs.lemmas.List.{get_or_default, get_or-take}
 use Rattle.std.proofs.lemmas.Bool.{cases_lt, and_parts, and_from, leb-true, le-leb}
 use Rattle.theory.specs.Designs.{Design}
 use Rattle.designs.specs.Forms.{Form, Nil, below, lawful}
@@ -9,6 +9,7 @@ use Rattle.designs.specs.Shapes.{Small, ShapeOf, Shaped}
 use Rattle.designs.specs.Nodes.{said, fault, form, forms, countable}
 use Rattle.designs.specs.Refusals.{place}
 use Rattle.designs.specs.Checks.{Faultless, FirstFault, Refused}
+use Rattle.designs.specs.declared.entry.Entry.{Entry}
 use Rattle.designs.specs.declared.node.Node.{Node}
 use Rattle.designs.specs.declared.shape.Shape.{Shape}
 use Rattle.designs.specs.declared.refusal.NodeRefusal.{NodeRefusal}
@@ -32,20 +33,9 @@ asked_by false b l i e h = let q : Kind i ≡ e = cc in subst (Asked i) q kind
 asked : (i : ℕ) (x : Node) (e : NodeRefusal) → fault i x ≡ Some e → Asked i e
 asked i x e h = asked_by (leb x.kind 7) (below i (said x)) (lawful (said x)) i e h
 
-place_asked : {i : ℕ} {e : NodeRefusal} → Asked i e → i ≡ place e
-place_asked kind = refl
-place_asked children = refl
-place_asked fields = refl
-
 -- what a read past the nodes would give
 abbrev pub blank : Node
 blank = record { kind = 0; code = 0; left = 0; right = 0; first = 0; second = 0 }
-
-pub first_fault : (xs : List Node) (i : ℕ) (d : Node) (e : NodeRefusal) → i < length xs → Faultless xs i → fault i (get_or xs i d) ≡ Some e → FirstFault xs e
-first_fault xs i d e h before f =
-    let q = place_asked (asked i (get_or xs i d) e f) in
-    let P : ℕ → Type 0 = λ j. (j < length xs) × Faultless xs j × ((d : Node) → fault j (get_or xs j d) ≡ Some e) in
-    subst P q (h, before, λ d'. ap (fault i) (get_or_default xs i d' d h) ∙ f)
 
 refused_asked : (xs : List Node) (i : ℕ) (e : NodeRefusal) → Asked i e → countable xs ≡ true → FirstFault xs e → Refused xs e
 refused_asked xs i e kind c f = (c, f)
@@ -65,23 +55,26 @@ faultless_more xs i d h before f j d' l = elim (cases_lt j i) [
       subst P q (ap (fault i) (get_or_default xs i d' d h) ∙ f)
 ]
 
--- the shape of a node, from those before it
-module _ (xs : List Node) (shapes : List Shape) (i : ℕ) (h : i < length xs) (shaped : Shaped (forms xs) shapes i) where
-  pub all_small : (j : ℕ) (e : Shape) → j < i → Small (get_or shapes j e)
-  all_small j e l = small (design (forms xs) j) (get_or shapes j e) (good (forms xs) (forms_sound xs) j) (shaped j e l)
+-- the shape of the node at i, from the entries of those before it
+module _ (xs : List Node) (es : List Entry) (i : ℕ) (h : i < length xs) (len : length es ≡ i) (shaped : Shaped (forms xs) es i) where
+  pub all_small : (j : ℕ) (e : Entry) → j < length es → Small (get_or es j e).shape
+  all_small j e l = small (design (forms xs) j) (get_or es j e).shape (good (forms xs) (forms_sound xs) j) (shaped j e (omega arith))
 
-  pub shape_at : (d : Node) (f : Form) (r : Shape) → f ≡ form i (get_or xs i d) → ((at : ℕ → Design) → ((j : ℕ) (e : Shape) → j < i → ShapeOf (at j) (get_or shapes j e)) → ShapeOf (built at f) r) → ShapeOf (design (forms xs) i) r
+  pub shape_at : (d : Node) (f : Form) (r : Shape) → f ≡ form i (get_or xs i d) → ((at : ℕ → Design) → ((j : ℕ) (e : Entry) → j < length es → ShapeOf (at j) (get_or es j e).shape) → ShapeOf (built at f) r) → ShapeOf (design (forms xs) i) r
   shape_at d f r e k =
       let q : get_or (forms xs) i Nil ≡ f = form_at xs i d h ∙ sym e in
-      subst (λ (x : Design). ShapeOf x r) (sym (design_is (forms xs) (forms_sound xs) i (omega (arith, length-forms 0 xs)) f q)) (k (design (forms xs)) shaped)
+      subst (λ (x : Design). ShapeOf x r) (sym (design_is (forms xs) (forms_sound xs) i (omega (arith, length-forms 0 xs)) f q)) (k (design (forms xs)) (λ j e l. shaped j e (omega arith)))
 
-pub shaped_more : (fs : List Form) (shapes shapes' : List Shape) (i : ℕ) (r : Shape) → Shaped fs shapes i → ShapeOf (design fs i) r → ((j : ℕ) (e : Shape) → j < i → get_or shapes' j e ≡ get_or shapes j e) → ((e : Shape) → get_or shapes' i e ≡ r) → Shaped fs shapes' (i + 1)
-shaped_more fs shapes shapes' i r shaped here old new j e l = elim (cases_lt j i) [
-  | inl k ↦ subst (ShapeOf (design fs j)) (sym (old j e k)) (shaped j e k)
+pub shaped_front : (fs : List Form) (es : List Entry) (i : ℕ) → Shaped fs es i → Shaped fs (take i es) i
+shaped_front fs es i shaped j e l = subst (λ (x : Entry). ShapeOf (design fs j) x.shape) (sym (get_or-take i es j e l)) (shaped j e l)
+
+pub shaped_more : (fs : List Form) (es es' : List Entry) (i : ℕ) (r : Entry) → Shaped fs es i → ShapeOf (design fs i) r.shape → ((j : ℕ) (e : Entry) → j < i → get_or es' j e ≡ get_or es j e) → ((e : Entry) → get_or es' i e ≡ r) → Shaped fs es' (i + 1)
+shaped_more fs es es' i r shaped here old new j e l = elim (cases_lt j i) [
+  | inl k ↦ subst (λ (x : Entry). ShapeOf (design fs j) x.shape) (sym (old j e k)) (shaped j e k)
   | inr k ↦
       let q : i ≡ j = omega arith in
-      let P : ℕ → Type 0 = λ n. ShapeOf (design fs n) (get_or shapes' n e) in
-      subst P q (subst (ShapeOf (design fs i)) (sym (new e)) here)
+      let P : ℕ → Type 0 = λ n. ShapeOf (design fs n) (get_or es' n e).shape in
+      subst P q (subst (λ (x : Entry). ShapeOf (design fs i) x.shape) (sym (new e)) here)
 ]
 
 pub count_bounds : (xs : List Node) → countable xs ≡ true → (1 ≤ length xs) × (length xs ≤ 256)

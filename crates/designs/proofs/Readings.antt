@@ -1,11 +1,16 @@
 -- The forms that nodes are read as.
-use Rattle.std.proofs.Common.{◌≡◌, ℕ, zero, suc, ◌+◌, ◌-◌, ◌<◌, cond, ◌&&◌, leb, List, [], ◌∷◌, ◌++◌, length, get_or, take, None, refl, ap, ◌∙◌, subst, arith}
+use Rattle.std.proofs.Common.{◌≡◌, ℕ, zero, suc, ◌+◌, ◌-◌, ◌<◌, cond, ◌&&◌, leb, List, [], ◌∷◌, ◌++◌, length, get_or, take, Some, None, Ok, Err, Result, MatchResult, refl, ap, ◌∙◌, subst, arith}
+use Rattle.std.specs.Result.{result_unwrap_or}
 use Rattle.std.proofs.lemmas.List.{take_more, length-take-le}
 use Rattle.std.proofs.lemmas.Bool.{cond_both, and_parts}
 use Rattle.designs.specs.Forms.{Nil, below, lawful}
 use Rattle.designs.specs.Tables.{Fine, Sound, design, whole, too_large}
 use Rattle.designs.specs.Nodes.{said, fault, form, forms_from, forms, written}
+use Rattle.designs.specs.Operations.{form_of}
 use Rattle.designs.specs.declared.node.Node.{Node}
+use Rattle.designs.specs.declared.refusal.NodeRefusal.{NodeRefusal}
+use Rattle.designs.specs.declared.operation.Operation.{Operation}
+use Rattle.designs.specs.declared.operation.Operation.TheVariants as operations
 
 pub form_fine : (i : ℕ) (x : Node) → Fine i (form i x)
 form_fine i x =
@@ -21,6 +26,18 @@ faultless_form i x e =
     let b = below i (said x) in
     let l = lawful (said x) in
     grind arith
+
+faulty_form : (i : ℕ) (x : Node) (e : NodeRefusal) → fault i x ≡ Some e → Nil ≡ form i x
+faulty_form i x e h =
+    let k = leb x.kind 7 in
+    let b = below i (said x) in
+    let l = lawful (said x) in
+    grind arith
+
+-- what is read, or nil in place of a refusal
+pub or_nil : (i : ℕ) (x : Node) (r : Result Operation NodeRefusal) → MatchResult r (λ o. (fault i x ≡ None) × (form_of o ≡ said x)) (λ e. fault i x ≡ Some e) → form_of (result_unwrap_or r operations.Nil) ≡ form i x
+or_nil i x (Ok o) h = h.1 ∙ faultless_form i x h.0
+or_nil i x (Err e) h = faulty_form i x e h
 
 pub length-forms : (k : ℕ) (xs : List Node) → length (forms_from k xs) ≡ length xs
 length-forms k [] = refl

@@ -5,30 +5,31 @@ ghost use Rattle.designs.specs.Shapes.{ShapeOf};
 ghost use Rattle.designs.specs.Nodes.{forms, countable};
 ghost use Rattle.designs.specs.Checks.{Faultless, FirstFault, Passed, Refused};
 
-use super::node::Node;
+use super::entry::Entry;
+use super::node::{MOST_NODES, Node};
+use super::operation::Operation;
 use super::reading::operation_at;
 use super::refusal::NodeRefusal;
 use super::shape::Shape;
 use super::shaping::shape_of;
-
-const MOST_NODES: usize = 256;
 
 // The shape of the last node, if none has a fault.
 fn last_shape(nodes: &[Node]) -> Result<Shape, NodeRefusal>
     requires { countable nodes.now ≡ true }
     ensures { MatchResult result (λ x. Faultless nodes.now (length nodes.now) × ShapeOf (design (forms nodes.now) (length nodes.now - 1)) x) (λ e. FirstFault nodes.now e) }
 {
-    let none = Shape {
-        states: 0,
-        width: 0,
-        start: 0,
+    let blank = Entry {
+        operation: Operation::Nil,
+        shape: Shape::OUTSIZE,
     };
-    let mut shapes = [none; MOST_NODES];
-    for i in 0..nodes.len() {
-        let operation = operation_at(i, nodes[i])?;
-        shapes[i] = shape_of(operation, &shapes, i);
+    // An array in place of a Vec: the check allocates nothing.
+    let mut entries = [blank; MOST_NODES];
+    for (i, node) in nodes.iter().enumerate() {
+        let operation = operation_at(i, *node)?;
+        let shape = shape_of(operation, &entries[..i]);
+        entries[i] = Entry { operation, shape };
     }
-    Ok(shapes[nodes.len() - 1])
+    Ok(entries[nodes.len() - 1].shape)
 }
 
 pub fn check_nodes(nodes: &[Node]) -> Result<(), NodeRefusal>

@@ -2,6 +2,7 @@
 #![tactic(auto)]
 
 pub mod check;
+pub mod entry;
 pub mod node;
 pub mod operation;
 pub mod outline;

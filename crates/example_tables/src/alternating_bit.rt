@@ -3,277 +3,87 @@
 use certificates::rows::EqualRow;
 use systems::rows::Row;
 
-pub const SENDER: [Row; 12] = [
-    Row {
-        from: 0,
-        code: 5,
-        to: 1,
-    },
-    Row {
-        from: 0,
-        code: 1,
-        to: 0,
-    },
-    Row {
-        from: 1,
-        code: 23,
-        to: 2,
-    },
-    Row {
-        from: 2,
-        code: 29,
-        to: 3,
-    },
-    Row {
-        from: 2,
-        code: 33,
-        to: 1,
-    },
-    Row {
-        from: 2,
-        code: 0,
-        to: 1,
-    },
-    Row {
-        from: 3,
-        code: 5,
-        to: 4,
-    },
-    Row {
-        from: 3,
-        code: 1,
-        to: 3,
-    },
-    Row {
-        from: 4,
-        code: 27,
-        to: 5,
-    },
-    Row {
-        from: 5,
-        code: 33,
-        to: 0,
-    },
-    Row {
-        from: 5,
-        code: 29,
-        to: 4,
-    },
-    Row {
-        from: 5,
-        code: 0,
-        to: 4,
-    },
+pub const SENDER: [Row; 12] = rows![
+    (0, 5, 1),
+    (0, 1, 0),
+    (1, 23, 2),
+    (2, 29, 3),
+    (2, 33, 1),
+    (2, 0, 1),
+    (3, 5, 4),
+    (3, 1, 3),
+    (4, 27, 5),
+    (5, 33, 0),
+    (5, 29, 4),
+    (5, 0, 4),
 ];
 
-pub const MEDIUM: [Row; 8] = [
-    Row {
-        from: 0,
-        code: 21,
-        to: 1,
-    },
-    Row {
-        from: 0,
-        code: 25,
-        to: 2,
-    },
-    Row {
-        from: 0,
-        code: 37,
-        to: 3,
-    },
-    Row {
-        from: 0,
-        code: 41,
-        to: 4,
-    },
-    Row {
-        from: 1,
-        code: 15,
-        to: 0,
-    },
-    Row {
-        from: 2,
-        code: 19,
-        to: 0,
-    },
-    Row {
-        from: 3,
-        code: 31,
-        to: 0,
-    },
-    Row {
-        from: 4,
-        code: 35,
-        to: 0,
-    },
+pub const MEDIUM: [Row; 8] = rows![
+    (0, 21, 1),
+    (0, 25, 2),
+    (0, 37, 3),
+    (0, 41, 4),
+    (1, 15, 0),
+    (2, 19, 0),
+    (3, 31, 0),
+    (4, 35, 0),
 ];
 
-pub const RECEIVER: [Row; 12] = [
-    Row {
-        from: 0,
-        code: 13,
-        to: 1,
-    },
-    Row {
-        from: 0,
-        code: 17,
-        to: 5,
-    },
-    Row {
-        from: 0,
-        code: 0,
-        to: 5,
-    },
-    Row {
-        from: 1,
-        code: 9,
-        to: 2,
-    },
-    Row {
-        from: 1,
-        code: 1,
-        to: 1,
-    },
-    Row {
-        from: 2,
-        code: 39,
-        to: 3,
-    },
-    Row {
-        from: 3,
-        code: 17,
-        to: 4,
-    },
-    Row {
-        from: 3,
-        code: 13,
-        to: 2,
-    },
-    Row {
-        from: 3,
-        code: 0,
-        to: 2,
-    },
-    Row {
-        from: 4,
-        code: 9,
-        to: 5,
-    },
-    Row {
-        from: 4,
-        code: 1,
-        to: 4,
-    },
-    Row {
-        from: 5,
-        code: 43,
-        to: 0,
-    },
+pub const RECEIVER: [Row; 12] = rows![
+    (0, 13, 1),
+    (0, 17, 5),
+    (0, 0, 5),
+    (1, 9, 2),
+    (1, 1, 1),
+    (2, 39, 3),
+    (3, 17, 4),
+    (3, 13, 2),
+    (3, 0, 2),
+    (4, 9, 5),
+    (4, 1, 4),
+    (5, 43, 0),
 ];
 
 // What the protocol is to do: to take a message, to hand it over two inner steps later, and to be ready after two more.
-pub const SERVICE: [Row; 8] = [
-    Row {
-        from: 0,
-        code: 5,
-        to: 1,
-    },
-    Row {
-        from: 0,
-        code: 1,
-        to: 0,
-    },
-    Row {
-        from: 1,
-        code: 1,
-        to: 2,
-    },
-    Row {
-        from: 2,
-        code: 1,
-        to: 3,
-    },
-    Row {
-        from: 3,
-        code: 9,
-        to: 4,
-    },
-    Row {
-        from: 3,
-        code: 1,
-        to: 3,
-    },
-    Row {
-        from: 4,
-        code: 1,
-        to: 5,
-    },
-    Row {
-        from: 5,
-        code: 1,
-        to: 0,
-    },
+pub const SERVICE: [Row; 8] = rows![
+    (0, 5, 1),
+    (0, 1, 0),
+    (1, 1, 2),
+    (2, 1, 3),
+    (3, 9, 4),
+    (3, 1, 3),
+    (4, 1, 5),
+    (5, 1, 0),
 ];
 
 // A bisimulation of the protocol and its service.
-pub const RELATION: [EqualRow; 12] = [
-    EqualRow { left: 0, right: 0 },
-    EqualRow { left: 30, right: 1 },
-    EqualRow { left: 66, right: 2 },
-    EqualRow { left: 61, right: 3 },
-    EqualRow { left: 62, right: 4 },
-    EqualRow { left: 81, right: 5 },
-    EqualRow { left: 93, right: 0 },
-    EqualRow {
-        left: 123,
-        right: 1,
-    },
-    EqualRow {
-        left: 165,
-        right: 2,
-    },
-    EqualRow {
-        left: 154,
-        right: 3,
-    },
-    EqualRow {
-        left: 155,
-        right: 4,
-    },
-    EqualRow {
-        left: 174,
-        right: 5,
-    },
+pub const RELATION: [EqualRow; 12] = pairs![
+    (0, 0),
+    (30, 1),
+    (66, 2),
+    (61, 3),
+    (62, 4),
+    (81, 5),
+    (93, 0),
+    (123, 1),
+    (165, 2),
+    (154, 3),
+    (155, 4),
+    (174, 5),
 ];
 
 // The same with another receiver state in the last pair.
-pub const MISPRINT: [EqualRow; 12] = [
-    EqualRow { left: 0, right: 0 },
-    EqualRow { left: 30, right: 1 },
-    EqualRow { left: 66, right: 2 },
-    EqualRow { left: 61, right: 3 },
-    EqualRow { left: 62, right: 4 },
-    EqualRow { left: 81, right: 5 },
-    EqualRow { left: 93, right: 0 },
-    EqualRow {
-        left: 123,
-        right: 1,
-    },
-    EqualRow {
-        left: 165,
-        right: 2,
-    },
-    EqualRow {
-        left: 154,
-        right: 3,
-    },
-    EqualRow {
-        left: 155,
-        right: 4,
-    },
-    EqualRow {
-        left: 177,
-        right: 5,
-    },
+pub const MISPRINT: [EqualRow; 12] = pairs![
+    (0, 0),
+    (30, 1),
+    (66, 2),
+    (61, 3),
+    (62, 4),
+    (81, 5),
+    (93, 0),
+    (123, 1),
+    (165, 2),
+    (154, 3),
+    (155, 4),
+    (177, 5),
 ];

@@ -2,44 +2,7 @@
 use systems::rows::Row;
 
 // a.(b.0 + c.0), its states numbered from the last
-pub const LATE: [Row; 3] = [
-    Row {
-        from: 2,
-        code: 4,
-        to: 1,
-    },
-    Row {
-        from: 1,
-        code: 8,
-        to: 0,
-    },
-    Row {
-        from: 1,
-        code: 12,
-        to: 0,
-    },
-];
+pub const LATE: [Row; 3] = rows![(2, 4, 1), (1, 8, 0), (1, 12, 0)];
 
 // a.b.0 + a.c.0, likewise: the choice is made a step earlier
-pub const EARLY: [Row; 4] = [
-    Row {
-        from: 3,
-        code: 4,
-        to: 2,
-    },
-    Row {
-        from: 3,
-        code: 4,
-        to: 1,
-    },
-    Row {
-        from: 2,
-        code: 8,
-        to: 0,
-    },
-    Row {
-        from: 1,
-        code: 12,
-        to: 0,
-    },
-];
+pub const EARLY: [Row; 4] = rows![(3, 4, 2), (3, 4, 1), (2, 8, 0), (1, 12, 0)];

@@ -1,6 +1,6 @@
 use super::alternating_bit as parts;
 use actions::pair::ChannelPair;
-use anyhow::anyhow;
+use anyhow::Context;
 use composition::parallel::Parallel;
 use relabelling::restriction::Restriction;
 use std::alloc::Global;
@@ -17,9 +17,7 @@ pub fn protocol(heap: Global) -> anyhow::Result<Protocol> {
     let sender = Table::new(heap, 6, &parts::SENDER)?;
     let medium = Table::new(heap, 5, &parts::MEDIUM)?;
     let receiver = Table::new(heap, 6, &parts::RECEIVER)?;
-    let Some(inner) = ChannelPair::new(0, INNER) else {
-        return Err(anyhow!("no channel pair"));
-    };
+    let inner = ChannelPair::new(0, INNER).context("no channel pair")?;
     Ok(Restriction::new(
         inner,
         Parallel::new(Parallel::new(sender, medium), receiver),

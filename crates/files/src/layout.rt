@@ -1,56 +1,46 @@
 // The questions asked of a file.
-ghost use Rattle.std.specs.Prelude.{◌≡◌, Some, None, MatchResult};
-ghost use Rattle.files.specs.Layouts.{marked, version_one, first_count, second_count};
+ghost use Rattle.std.specs.Prelude.{◌≡◌, ◌+◌, ◌*◌, ◌<◌, ◌≤◌, map, drop, length, Some, None, MatchOption, MatchResult};
+ghost use Rattle.files.specs.Layouts.{field, node_at, nodes_at, first_nodes, second_nodes};
 ghost use Rattle.files.specs.Refusals.{file_fault};
 
-use super::fields::word;
+use super::fields::NODE_BYTES;
 use super::refusal::FileRefusal;
+use designs::node::MOST_NODES;
 
-// The longest file has two designs of 256 nodes.
-const MOST_BYTES: usize = 11785;
+// The longest file has two designs of the most nodes.
+const MOST_BYTES: usize = 9 + 2 * MOST_NODES * NODE_BYTES;
 
-const NODE_BYTES: usize = 23;
-
-fn is_marked(bytes: &[u8]) -> bool
-    ensures { result ≡ marked bytes.now }
-{
-    bytes.len() >= 3 && bytes[0] == b'P' && bytes[1] == b'C' && bytes[2] == b'D'
-}
-
-fn is_version_one(bytes: &[u8]) -> bool
-    ensures { result ≡ version_one bytes.now }
-{
-    bytes.len() >= 5 && word(bytes, 3) == 1
-}
-
-// How many nodes each design has.
+// The nodes of each design, as bytes.
 #[derive(Clone, Copy)]
-pub struct Counts {
-    pub first: usize,
-    pub second: usize,
+pub(crate) struct Layout<'a> {
+    pub first: &'a [[u8; NODE_BYTES]],
+    pub second: &'a [[u8; NODE_BYTES]],
 }
 
-pub fn counts_of(bytes: &[u8]) -> Result<Counts, FileRefusal>
-    ensures { MatchResult result (λ c. (file_fault bytes.now ≡ None) × (c.first ≡ first_count bytes.now) × (c.second ≡ second_count bytes.now)) (λ e. file_fault bytes.now ≡ Some e) }
+// A count in two bytes and so many nodes, and the bytes after them.
+fn counted(bytes: &[u8]) -> Option<(&[[u8; NODE_BYTES]], &[u8])>
+    ensures { MatchOption result (length bytes.now < 2 + 23 * field bytes.now 0 2) (λ p. (2 + 23 * field bytes.now 0 2 ≤ length bytes.now) × (map (λ x. node_at x 0) p.0.now ≡ nodes_at bytes.now 2 (field bytes.now 0 2)) × (p.1.now ≡ drop (2 + 23 * field bytes.now 0 2) bytes.now)) }
 {
-    if !is_marked(bytes) {
-        return Err(FileRefusal::Mark);
-    }
-    if !is_version_one(bytes) {
-        return Err(FileRefusal::Version);
-    }
-    let length = bytes.len();
-    if length > MOST_BYTES || length < 7 {
+    let (count, rest) = bytes.split_first_chunk()?;
+    let size = NODE_BYTES * u16::from_be_bytes(*count) as usize;
+    let (nodes, after) = rest.split_at_checked(size)?;
+    Some((nodes.as_chunks().0, after))
+}
+
+pub(crate) fn layout_of(bytes: &[u8]) -> Result<Layout<'_>, FileRefusal>
+    ensures { MatchResult result (λ c. (file_fault bytes.now ≡ None) × (map (λ x. node_at x 0) c.first.now ≡ first_nodes bytes.now) × (map (λ x. node_at x 0) c.second.now ≡ second_nodes bytes.now)) (λ e. file_fault bytes.now ≡ Some e) }
+{
+    let rest = bytes.strip_prefix(b"PCD").ok_or(FileRefusal::Mark)?;
+    // Version 1, in two bytes.
+    let rest = rest.strip_prefix(&[0, 1]).ok_or(FileRefusal::Version)?;
+    if bytes.len() > MOST_BYTES {
         return Err(FileRefusal::Length);
     }
-    let first = word(bytes, 5) as usize;
-    let place = 7 + NODE_BYTES * first;
-    if length < place + 2 {
-        return Err(FileRefusal::Length);
+    let (first, rest) = counted(rest).ok_or(FileRefusal::Length)?;
+    let (second, rest) = counted(rest).ok_or(FileRefusal::Length)?;
+    if rest.is_empty() {
+        Ok(Layout { first, second })
+    } else {
+        Err(FileRefusal::Length)
     }
-    let second = word(bytes, place) as usize;
-    if length != place + 2 + NODE_BYTES * second {
-        return Err(FileRefusal::Length);
-    }
-    Ok(Counts { first, second })
 }

@@ -1,4 +1,5 @@
 ghost use Rattle.std.specs.Prelude.{◌≡◌};
+ghost use Rattle.files.specs.Refusals.{number as number_of};
 ghost use Rattle.files.specs.declared.refusal.ReadFault.TheVariants.{File, Memory};
 
 use designs::node::Node;
@@ -10,6 +11,19 @@ pub enum FileRefusal {
     Mark,
     Version,
     Length,
+}
+
+impl FileRefusal {
+    // The number of the question that failed.
+    pub fn number(self) -> u8
+        ensures { result ≡ number_of self }
+    {
+        match self {
+            FileRefusal::Mark => 28,
+            FileRefusal::Version => 29,
+            FileRefusal::Length => 30,
+        }
+    }
 }
 
 // Why a file gives no nodes.

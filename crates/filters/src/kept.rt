@@ -4,6 +4,7 @@ ghost use Rattle.filters.specs.Kept.{kept};
 
 use actions::action::Action;
 use systems::system::System;
+use systems::transitions::transitions_of;
 
 // A test of actions.
 pub trait Keeps {
@@ -17,15 +18,9 @@ pub trait Keeps {
 pub fn count_kept<S: System, P: Keeps>(system: &S, s: usize, test: &P) -> usize
     ensures { result ≡ length (kept (P.Keeps.passes test.now) ((S.System.meaning system.now).moves s)) }
 {
-    let mut total = 0;
-    for i in 0..system.count(s) {
-        if let Some(m) = system.nth(s, i) {
-            if test.keeps(m.0) {
-                total += 1;
-            }
-        }
-    }
-    total
+    transitions_of(system, s)
+        .filter(|m| test.keeps(m.0))
+        .count()
 }
 
 // The k-th of those that pass, counted from 0.
@@ -37,16 +32,5 @@ pub fn nth_kept<S: System, P: Keeps>(
 ) -> Option<(Action, usize)>
     ensures { Kth (kept (P.Keeps.passes test.now) ((S.System.meaning system.now).moves s)) k result }
 {
-    let mut left = k;
-    for i in 0..system.count(s) {
-        if let Some(m) = system.nth(s, i) {
-            if test.keeps(m.0) {
-                if left == 0 {
-                    return Some(m);
-                }
-                left -= 1;
-            }
-        }
-    }
-    None
+    transitions_of(system, s).filter(|m| test.keeps(m.0)).nth(k)
 }

@@ -15,17 +15,6 @@ struct Shown<Y> {
     layer: PhantomData<Y>,
 }
 
-impl<Y> Shown<Y> {
-    fn of(calm: bool) -> Shown<Y>
-        ensures { result.calm ≡ calm }
-    {
-        Shown {
-            calm,
-            layer: PhantomData,
-        }
-    }
-}
-
 impl<Y: Layer> Keeps for Shown<Y> {
     ghost passes = { λ x a. Y.Layer.rule.keeps x.calm a };
 
@@ -52,6 +41,17 @@ impl<Y, S> Layered<Y, S> {
     }
 }
 
+impl<Y: Layer, S: System> Layered<Y, S> {
+    fn test_of(&self, s: usize) -> Shown<Y>
+        ensures { result.calm ≡ Y.Layer.rule.calm ((S.System.meaning self.now.below).moves s) }
+    {
+        Shown {
+            calm: Y::is_calm(&self.below, s),
+            layer: PhantomData,
+        }
+    }
+}
+
 impl<Y: Layer, S: System> System for Layered<Y, S> {
     ghost meaning = { λ x. shown Y.Layer.rule (S.System.meaning x.below) };
 
@@ -66,12 +66,10 @@ impl<Y: Layer, S: System> System for Layered<Y, S> {
     }
 
     fn count(&self, s: usize) -> usize {
-        let test = Shown::<Y>::of(Y::is_calm(&self.below, s));
-        count_kept(&self.below, s, &test)
+        count_kept(&self.below, s, &self.test_of(s))
     }
 
     fn nth(&self, s: usize, k: usize) -> Option<(Action, usize)> {
-        let test = Shown::<Y>::of(Y::is_calm(&self.below, s));
-        nth_kept(&self.below, s, k, &test)
+        nth_kept(&self.below, s, k, &self.test_of(s))
     }
 }

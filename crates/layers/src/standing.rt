@@ -7,6 +7,7 @@ use super::layer::Layer;
 use super::layered::Layered;
 use actions::action::Action;
 use systems::system::System;
+use systems::transitions::transitions_of;
 
 // The layer of what stands: every prioritised transition, and the others in patient states only, that is where no
 // transition is the prioritised inner action.
@@ -15,20 +16,11 @@ pub struct Standing;
 
 impl Known for Standing {}
 
-const PRIORITISED_INNER: u8 = 1;
-
 impl Layer for Standing {
     ghost rule = { standing_layer };
 
     fn is_calm<S: System>(system: &S, s: usize) -> bool {
-        for k in 0..system.count(s) {
-            if let Some(m) = system.nth(s, k) {
-                if m.0.code() == PRIORITISED_INNER {
-                    return false;
-                }
-            }
-        }
-        true
+        transitions_of(system, s).all(|m| m.0 != Action::inner(true))
     }
 
     fn keeps(calm: bool, a: Action) -> bool {

@@ -6,7 +6,7 @@ use actions::action::Action;
 use actions::pair::ChannelPair;
 use std::alloc::{AllocError, Global};
 
-// The transitions that a restriction leaves.
+// The transitions that a restriction by the pair leaves.
 pub fn kept(
     heap: Global,
     ms: &[(Action, usize)],
@@ -14,11 +14,8 @@ pub fn kept(
 ) -> Result<Vec<(Action, usize)>, AllocError>
     ensures { IfOk result (λ v. moves_of v.items ≡ filter (open_move pair.first pair.second) (moves_of ms.now)) }
 {
-    let mut out = Vec::new(heap);
-    for m in ms {
-        if !m.0.is_barred_by(pair) {
-            out.push(*m)?;
-        }
-    }
-    Ok(out)
+    ms.iter()
+        .copied()
+        .filter(|m| !m.0.is_barred_by(pair))
+        .collect(heap)
 }

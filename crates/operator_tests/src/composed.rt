@@ -3,16 +3,11 @@ use composition::nil::Nil;
 use composition::parallel::Parallel;
 use composition::prefix::Prefix;
 use composition::sum::Sum;
+use example_tables::rows;
+use example_tables::small::LOOP;
 use std::test::Fail;
-use systems::rows::Row;
 use systems::system::System;
 use systems::table::Table;
-
-const LOOP: Row = Row {
-    from: 0,
-    code: 4,
-    to: 0,
-};
 
 #[test]
 fn states_of_pairs(rt: HostRuntime) -> Result<(), Fail> {
@@ -36,18 +31,7 @@ fn widths_of_pairs(rt: HostRuntime) -> Result<(), Fail> {
 
 #[test]
 fn starts(rt: HostRuntime) -> Result<(), Fail> {
-    let rows = [
-        Row {
-            from: 1,
-            code: 4,
-            to: 0,
-        },
-        Row {
-            from: 2,
-            code: 8,
-            to: 1,
-        },
-    ];
+    let rows = rows![(1, 4, 0), (2, 8, 1)];
     let x = Table::new(rt.alloc(), 3, &rows)?;
     let p = Prefix::new(action(13)?, 2, &x);
     check_moves(&rt, &p, 0, &[(13, 3)])?;

@@ -6,24 +6,15 @@ use std::test::Fail;
 use systems::system::System;
 
 pub fn action(code: u16) -> Result<Action, Fail> {
-    match Action::from_code(code) {
-        Some(a) => Ok(a),
-        None => Err(Fail::new("no action")),
-    }
+    Action::from_code(code).ok_or_else(|| Fail::new("no action"))
 }
 
 pub fn pair(first: u64, second: u64) -> Result<ChannelPair, Fail> {
-    match ChannelPair::new(first, second) {
-        Some(p) => Ok(p),
-        None => Err(Fail::new("no channel pair")),
-    }
+    ChannelPair::new(first, second).ok_or_else(|| Fail::new("no channel pair"))
 }
 
 pub fn renaming(class: u16, from: u64, to: u64) -> Result<Renaming, Fail> {
-    match Renaming::new(class, from, to) {
-        Some(r) => Ok(r),
-        None => Err(Fail::new("no renaming")),
-    }
+    Renaming::new(class, from, to).ok_or_else(|| Fail::new("no renaming"))
 }
 
 // The state has exactly these transitions, in this order.
@@ -34,11 +25,11 @@ pub fn check_moves<S: System>(
     expected: &[(u8, usize)],
 ) -> Result<(), Fail> {
     assert_eq!(rt; system.count(s), expected.len());
-    for k in 0..expected.len() {
-        match system.nth(s, k) {
-            Some(m) => assert_eq!(rt; (m.0.code(), m.1), expected[k]),
-            None => return Err(Fail::new("too few transitions")),
-        }
+    for (k, transition) in expected.iter().enumerate() {
+        let m = system
+            .nth(s, k)
+            .ok_or_else(|| Fail::new("too few transitions"))?;
+        assert_eq!(rt; (m.0.code(), m.1), *transition);
     }
     assert!(rt; system.nth(s, expected.len()).is_none());
     Ok(())

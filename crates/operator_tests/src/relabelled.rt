@@ -1,6 +1,7 @@
 use super::listing::{action, check_moves, pair, renaming};
 use composition::nil::Nil;
 use composition::prefix::Prefix;
+use example_tables::rows;
 use relabelling::lowered::Lowered;
 use relabelling::raised::Raised;
 use relabelling::renamed::Renamed;
@@ -14,28 +15,7 @@ use systems::table::Table;
 const CHANNEL_1: u64 = 2;
 
 // One state with the four actions of channel 1.
-const ALL_FOUR: [Row; 4] = [
-    Row {
-        from: 0,
-        code: 4,
-        to: 0,
-    },
-    Row {
-        from: 0,
-        code: 5,
-        to: 0,
-    },
-    Row {
-        from: 0,
-        code: 6,
-        to: 0,
-    },
-    Row {
-        from: 0,
-        code: 7,
-        to: 0,
-    },
-];
+const ALL_FOUR: [Row; 4] = rows![(0, 4, 0), (0, 5, 0), (0, 6, 0), (0, 7, 0)];
 
 #[test]
 fn restriction_reads_its_words_by_class(rt: HostRuntime) -> Result<(), Fail> {
@@ -100,23 +80,7 @@ fn raising_and_lowering_read_theirs_by_polarity(rt: HostRuntime) -> Result<(), F
 
 #[test]
 fn impatient_states_stay(rt: HostRuntime) -> Result<(), Fail> {
-    let rows = [
-        Row {
-            from: 0,
-            code: 4,
-            to: 0,
-        },
-        Row {
-            from: 0,
-            code: 5,
-            to: 0,
-        },
-        Row {
-            from: 0,
-            code: 1,
-            to: 0,
-        },
-    ];
+    let rows = rows![(0, 4, 0), (0, 5, 0), (0, 1, 0)];
     let x = Table::new(rt.alloc(), 1, &rows)?;
     let same = [(4, 0), (5, 0), (1, 0)];
     check_moves(&rt, &Raised::new(pair(CHANNEL_1, 0)?, &x), 0, &same)?;

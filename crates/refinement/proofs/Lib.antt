@@ -1,6 +1,5 @@
 pub mod Truths
 pub mod Telling
-pub mod Somes
 pub mod Grids
 pub mod Passes
 pub mod Counts

@@ -4,5 +4,6 @@
 pub mod lowered;
 pub mod raised;
 mod recoded;
+pub mod relabelled;
 pub mod renamed;
 pub mod restriction;

@@ -1,56 +1,12 @@
-ghost use Rattle.std.specs.Prelude.{◌≡◌, ℕ, map};
-ghost use Rattle.theory.specs.Codes.{raised, lowered, renamed};
+ghost use Rattle.std.specs.Prelude.{map};
 ghost use Rattle.theory.specs.Operators.{recoded, recoded_moves};
 ghost use Rattle.actions.specs.Transitions.{Kth};
 
 use actions::action::Action;
-use actions::pair::ChannelPair;
-use actions::renaming::Renaming;
+use actions::recoding::Recodes;
 use layers::layer::Layer;
 use layers::standing::Standing;
 use systems::system::System;
-
-// What an operator makes of an action.
-pub trait Recodes {
-    ghost code: { Self → ℕ → ℕ };
-
-    fn recoded(&self, a: Action) -> Action
-        ensures { result.code ≡ code self.now a.code };
-}
-
-impl Recodes for Renaming {
-    ghost code = { λ x. renamed x.class x.from x.to };
-
-    fn recoded(&self, a: Action) -> Action {
-        a.renamed_by(*self)
-    }
-}
-
-#[derive(Clone, Copy)]
-pub struct Raise {
-    pub pair: ChannelPair,
-}
-
-impl Recodes for Raise {
-    ghost code = { λ x. raised x.pair.first x.pair.second };
-
-    fn recoded(&self, a: Action) -> Action {
-        a.raised_by(self.pair)
-    }
-}
-
-#[derive(Clone, Copy)]
-pub struct Lower {
-    pub pair: ChannelPair,
-}
-
-impl Recodes for Lower {
-    ghost code = { λ x. lowered x.pair.first x.pair.second };
-
-    fn recoded(&self, a: Action) -> Action {
-        a.lowered_by(self.pair)
-    }
-}
 
 // The k-th transition of the state, with its action recoded.
 pub fn nth_recoded<S: System, R: Recodes>(

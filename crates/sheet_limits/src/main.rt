@@ -1,82 +1,21 @@
 // Sheets at their limits: written out of cells that no comparison left, and of the most rows and one more.
 #![tactic(auto)]
 
-mod cases;
-
 use anyhow::anyhow;
 use certificates::fault::SheetFault;
 use certificates::rows::{DifferentRow, EqualRow};
-use comparison::comparison::{Open, Settled, Step};
+use example_tables::small::{CHOICE, FIRST, SINGLE, SPOILT};
 use layers::standing::Standing;
+use reports::printed::{Checked, Written};
 use sheets::different::check_different;
 use sheets::equal::check_equal;
 use systems::system::System;
 use systems::table::Table;
+use verdicts::settling::settle;
 use writers::different::write_different;
-use writers::refusal::WriteRefusal;
-
-fn show(rt: &impl Print, name: &str, answer: Result<(), SheetFault>) -> anyhow::Result<()> {
-    match answer {
-        Ok(()) => println!(rt; "{name}: accepted")?,
-        Err(fault) => {
-            let report = fault.report();
-            let number = report.number;
-            let place = report.place;
-            let side = report.side;
-            let k = report.k;
-            println!(rt; "{name}: refused {number} {place} {side} {k}")?
-        }
-    }
-    Ok(())
-}
-
-fn show_count(
-    rt: &impl Print,
-    name: &str,
-    answer: Result<usize, WriteRefusal>,
-) -> anyhow::Result<()> {
-    match answer {
-        Ok(count) => println!(rt; "{name}: {count} rows")?,
-        Err(refusal) => {
-            let number = refusal.number();
-            println!(rt; "{name}: refused {number}")?
-        }
-    }
-    Ok(())
-}
-
-fn settle<S: System, T: System>(
-    left: &S,
-    right: &T,
-    cells: &mut [u32],
-) -> anyhow::Result<Settled<Standing>> {
-    let mut current = match Open::<Standing>::begin(left, right, cells) {
-        Ok(begun) => begun,
-        Err(_) => return Err(anyhow!("not begun")),
-    };
-    for _ in 0..2000 {
-        match current.sweep(left, right, cells) {
-            Ok(step) => match step {
-                Step::Again(next) => current = next,
-                Step::Done(settled) => return Ok(settled),
-            },
-            Err(_) => return Err(anyhow!("a sweep was refused")),
-        }
-    }
-    Err(anyhow!("not settled"))
-}
 
 // a pair of states without transitions
 const ENDED: EqualRow = EqualRow { left: 1, right: 1 };
-
-const FIRST: DifferentRow = DifferentRow {
-    left: 0,
-    right: 0,
-    side: 0,
-    k: 0,
-};
-
-const SPOILT: [u32; 6] = [4000000000, 0, 0, 7, 3000000000, 2];
 
 // Rounds out of sequence, the asked pair's of 2^31: each pair that has one also has its move.
 const OUT_OF_SEQUENCE: [u32; 6] = [2147483648, 5, 9, 0, 7, 0];
@@ -112,79 +51,59 @@ fn write_difference<S: System, T: System>(
     cells: &mut [u32],
     rows: &mut [DifferentRow],
 ) -> anyhow::Result<()> {
-    let settled = settle(left, right, cells)?;
+    let settled = settle::<Standing, S, T>(left, right, cells).map_err(|_| anyhow!(
+        "not compared"
+    ))?;
     for case in &CELL_CASES {
         let room = case.room.min(rows.len());
         let answer = write_different(&settled, left, right, case.cells, 0, 0, &mut rows[..room]);
-        show_count(rt, case.name, answer)?;
+        println!(rt; "{}: {}", case.name, Written(answer))?;
     }
     for row in rows.iter() {
-        let s = row.left;
-        let t = row.right;
-        let side = row.side;
-        let k = row.k;
-        println!(rt; "  {s} {t} {side} {k}")?;
+        println!(rt; "  {} {} {} {}", row.left, row.right, row.side, row.k)?;
     }
     let written = 4.min(rows.len());
-    show(
-        rt,
-        "the sheet out of sequence",
-        check_different::<Standing, S, T>(left, right, &rows[..written], 0, 0),
-    )
+    let answer = check_different::<Standing, S, T>(left, right, &rows[..written], 0, 0);
+    println!(rt; "the sheet out of sequence: {}", Checked(answer))?;
+    Ok(())
 }
 
 // Different sheets of two small systems.
 fn choice(rt: &HostRuntime) -> anyhow::Result<()> {
-    let left = Table::new(rt.alloc(), 3, &cases::CHOICE)?;
-    let right = Table::new(rt.alloc(), 2, &cases::SINGLE)?;
+    let left = Table::new(rt.alloc(), 3, &CHOICE)?;
+    let right = Table::new(rt.alloc(), 2, &SINGLE)?;
     let mut cells = [0; 6];
     let mut rows = [FIRST; 6];
     write_difference(rt, &left, &right, &mut cells, &mut rows)
 }
 
-// Equal sheets of the first rows, for two states without transitions.
-fn check_ended(
-    rt: &impl Print,
-    table: &Table,
-    rows: &[EqualRow],
-    count: usize,
-) -> anyhow::Result<()> {
-    let first = &rows[..count.min(rows.len())];
-    println!(rt; "equal sheet of {count} rows")?;
-    show(
-        rt,
-        "  it is",
-        check_equal::<Standing, Table, Table>(table, table, first, 1, 1),
-    )
+// Checks sheets of one row over and over, with as many rows as there may be and with one more.
+fn check_largest<R: Copy, F: Fn(&[R]) -> Result<(), SheetFault>>(
+    rt: &HostRuntime,
+    kind: &str,
+    row: R,
+    check: F,
+) -> anyhow::Result<()>
+    requires { F.IsAlwaysCallable check }
+{
+    for count in [MOST_ROWS, MOST_ROWS + 1] {
+        let rows = vec![in rt.alloc(); row; count]?;
+        println!(rt; "{kind} sheet of {count} rows")?;
+        println!(rt; "  it is: {}", Checked(check(&rows)))?;
+    }
+    Ok(())
 }
 
-// Different sheets of the first rows, for two states that are told apart at once.
-fn check_told(
-    rt: &impl Print,
-    left: &Table,
-    right: &Table,
-    rows: &[DifferentRow],
-    count: usize,
-) -> anyhow::Result<()> {
-    let first = &rows[..count.min(rows.len())];
-    println!(rt; "different sheet of {count} rows")?;
-    show(
-        rt,
-        "  it is",
-        check_different::<Standing, Table, Table>(left, right, first, 0, 0),
-    )
-}
-
-// Sheets with as many rows as there may be, and with one more.
+// Equal sheets for two states without transitions, and different sheets for two that are told apart at once.
 fn largest(rt: &HostRuntime) -> anyhow::Result<()> {
-    let left = Table::new(rt.alloc(), 3, &cases::CHOICE)?;
-    let right = Table::new(rt.alloc(), 2, &cases::SINGLE)?;
-    let equal = vec![in rt.alloc(); ENDED; MOST_ROWS + 1]?;
-    check_ended(rt, &left, equal.as_slice(), MOST_ROWS)?;
-    check_ended(rt, &left, equal.as_slice(), MOST_ROWS + 1)?;
-    let different = vec![in rt.alloc(); FIRST; MOST_ROWS + 1]?;
-    check_told(rt, &left, &right, different.as_slice(), MOST_ROWS)?;
-    check_told(rt, &left, &right, different.as_slice(), MOST_ROWS + 1)
+    let left = Table::new(rt.alloc(), 3, &CHOICE)?;
+    let right = Table::new(rt.alloc(), 2, &SINGLE)?;
+    check_largest(rt, "equal", ENDED, |rows| {
+        check_equal::<Standing, Table, Table>(&left, &left, rows, 1, 1)
+    })?;
+    check_largest(rt, "different", FIRST, |rows| {
+        check_different::<Standing, Table, Table>(&left, &right, rows, 0, 0)
+    })
 }
 
 fn main(rt: HostRuntime) -> anyhow::Result<()> {

@@ -2,7 +2,8 @@
 // the pairs.
 #![tactic(auto)]
 
-mod count;
+mod compared;
 pub mod different;
 pub mod equal;
 pub mod pair_set;
+mod questions;

@@ -1,6 +1,6 @@
-ghost use Rattle.std.specs.Prelude.{◌≡◌, ◌≤◌, length};
+ghost use Rattle.std.specs.Prelude.{◌≤◌};
 
-// A set of pairs of states of two systems, as a bitmap.
+// A set of pairs of states of two systems, as a bitmap: the checks allocate nothing.
 #[derive(Drop)]
 pub struct PairSet {
     n1: usize,
@@ -8,7 +8,6 @@ pub struct PairSet {
     words: [u64; 16384],
     ghost few: { n1 ≤ 1024 },
     ghost few2: { n2 ≤ 1024 },
-    ghost full: { length words ≡ 16384 },
 }
 
 mod bits;

@@ -22,7 +22,7 @@ impl Draws {
         (self.state >> 33) as usize % n
     }
 
-    // Puts the items into any order.
+    // Puts the items into any order: each, by its place, is swapped with one drawn from those up to it.
     pub fn shuffle<T>(&mut self, items: &mut [T]) {
         for i in 0..items.len() {
             let j = self.below(i + 1);

@@ -1,7 +1,6 @@
 // The tables that are compared. tools/speed/baseline.rs makes the same ones.
-ghost use Rattle.std.specs.Prelude.{◌<◌, ◌≤◌};
-
 use super::draws::Draws;
+use super::wanted::Size;
 use std::alloc::{AllocError, Global};
 use systems::rows::Row;
 
@@ -37,42 +36,36 @@ const ROWS_PER_STATE: u32 = 4;
 // are not patient.
 const CODES: [u16; 16] = [4, 4, 4, 4, 4, 4, 4, 4, 4, 4, 4, 5, 5, 6, 0, 1];
 
-fn random_rows(heap: Global, n: u32, draws: &mut Draws) -> Result<Vec<Row>, AllocError>
-    requires { (0 < n) × (n ≤ 1024) }
-{
-    let mut rows = Vec::new(heap);
-    for _ in 0..ROWS_PER_STATE * n {
-        let from = draws.below(n as usize) as u32;
-        let code = CODES[draws.below(CODES.len())];
-        let to = draws.below(n as usize) as u32;
-        rows.push(Row { from, code, to })?;
+fn random_row(size: Size, draws: &mut Draws) -> Row {
+    let n = size.states as usize;
+    Row {
+        from: draws.below(n) as u32,
+        code: CODES[draws.below(CODES.len())],
+        to: draws.below(n) as u32,
     }
-    Ok(rows)
+}
+
+fn random_rows(heap: Global, size: Size, draws: &mut Draws) -> Result<Vec<Row>, AllocError> {
+    (0..ROWS_PER_STATE * size.states)
+        .map(|_| random_row(size, draws))
+        .collect(heap)
 }
 
 // Each state leads to the next, by four actions.
-fn chain_rows(heap: Global, n: u32) -> Result<Vec<Row>, AllocError>
-    requires { (1 < n) × (n ≤ 1024) }
-{
-    let mut rows = Vec::new(heap);
-    for i in 0..ROWS_PER_STATE * n {
-        let from = i % (n - 1);
-        let code = 4 + (i / (n - 1) % 4) as u16;
-        rows.push(Row {
-            from,
-            code,
-            to: from + 1,
-        })?;
-    }
-    Ok(rows)
+fn chain_rows(heap: Global, size: Size) -> Result<Vec<Row>, AllocError> {
+    let steps = size.states - 1;
+    (0..ROWS_PER_STATE * size.states)
+        .map(|i| Row {
+            from: i % steps,
+            code: 4 + (i / steps % 4) as u16,
+            to: i % steps + 1,
+        })
+        .collect(heap)
 }
 
-fn shuffled_names(heap: Global, n: u32, draws: &mut Draws) -> Result<Vec<u32>, AllocError> {
-    let mut names = Vec::new(heap);
-    for s in 0..n {
-        names.push(s)?;
-    }
-    draws.shuffle(names.as_mut_slice());
+fn shuffled_names(heap: Global, size: Size, draws: &mut Draws) -> Result<Vec<u32>, AllocError> {
+    let mut names = (0..size.states).collect::<Vec<u32>>(heap)?;
+    draws.shuffle(&mut names);
     Ok(names)
 }
 
@@ -83,20 +76,20 @@ fn renamed(names: &[u32], s: u32) -> u32 {
 // The same table with its states and rows in another order.
 fn renumbered(
     heap: Global,
-    n: u32,
+    size: Size,
     rows: &[Row],
     draws: &mut Draws,
 ) -> Result<Vec<Row>, AllocError> {
-    let names = shuffled_names(heap, n, draws)?;
-    let mut others = Vec::new(heap);
-    for row in rows {
-        others.push(Row {
-            from: renamed(names.as_slice(), row.from),
+    let names = shuffled_names(heap, size, draws)?;
+    let mut others = rows
+        .iter()
+        .map(|row| Row {
+            from: renamed(&names, row.from),
             code: row.code,
-            to: renamed(names.as_slice(), row.to),
-        })?;
-    }
-    draws.shuffle(others.as_mut_slice());
+            to: renamed(&names, row.to),
+        })
+        .collect::<Vec<Row>>(heap)?;
+    draws.shuffle(&mut others);
     Ok(others)
 }
 
@@ -110,20 +103,16 @@ impl Input {
         }
     }
 
-    pub(crate) fn pair(self, heap: Global, n: u32) -> Result<Pair, AllocError>
-        requires { (1 < n) × (n ≤ 1024) }
-    {
+    pub fn pair(self, heap: Global, size: Size) -> Result<Pair, AllocError> {
         let mut draws = Draws::new(1);
         let left = match self {
-            Input::Random | Input::Renumbered => random_rows(heap, n, &mut draws)?,
-            Input::Chain | Input::MixedChain => chain_rows(heap, n)?,
+            Input::Random | Input::Renumbered => random_rows(heap, size, &mut draws)?,
+            Input::Chain | Input::MixedChain => chain_rows(heap, size)?,
         };
         let right = match self {
-            Input::Random => random_rows(heap, n, &mut draws)?,
-            Input::Chain => chain_rows(heap, n)?,
-            Input::Renumbered | Input::MixedChain => {
-                renumbered(heap, n, left.as_slice(), &mut draws)?
-            }
+            Input::Random => random_rows(heap, size, &mut draws)?,
+            Input::Chain => chain_rows(heap, size)?,
+            Input::Renumbered | Input::MixedChain => { renumbered(heap, size, &left, &mut draws)? }
         };
         Ok(Pair { left, right })
     }

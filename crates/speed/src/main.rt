@@ -18,17 +18,19 @@ fn measure(
     input: Input,
     cells: &mut [u32],
 ) -> anyhow::Result<()> {
-    let pair = input.pair(rt.alloc(), wanted.states)?;
-    let left = Table::new(rt.alloc(), wanted.states, pair.left.as_slice())?;
-    let right = Table::new(rt.alloc(), wanted.states, pair.right.as_slice())?;
+    let states = wanted.size.states;
+    let pair = input.pair(rt.alloc(), wanted.size)?;
+    let left = Table::new(rt.alloc(), states, &pair.left)?;
+    let right = Table::new(rt.alloc(), states, &pair.right)?;
     let run = fastest(rt, wanted.times.unwrap_or(1), &left, &right, cells)?;
-    let name = input.name();
-    let sweeps = run.sweeps;
     let equal = count_zeros(cells);
-    print!(rt; "{name}: {sweeps} sweeps, {equal} equal pairs")?;
+    print!(rt;
+        "{}: {} sweeps, {equal} equal pairs",
+        input.name(),
+        run.sweeps
+    )?;
     if wanted.times.is_some() {
-        let nanos = run.time.as_nanos();
-        print!(rt; ", {nanos} ns")?;
+        print!(rt; ", {} ns", run.time.as_nanos())?;
     }
     println!(rt)?;
     Ok(())
@@ -36,10 +38,10 @@ fn measure(
 
 fn main(rt: HostRuntime) -> anyhow::Result<()> {
     let wanted = read_words(&rt)?;
-    let states = wanted.states as usize;
+    let states = wanted.size.states as usize;
     let mut cells = vec![in rt.alloc(); 0u32; states * states]?;
     for input in &INPUTS {
-        measure(&rt, wanted, *input, cells.as_mut_slice())?;
+        measure(&rt, wanted, *input, &mut cells)?;
     }
     Ok(())
 }

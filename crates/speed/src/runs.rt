@@ -23,13 +23,13 @@ fn timed(
     cells: &mut [u32],
 ) -> anyhow::Result<Run> {
     let start = Instant::now(clock)?;
-    match decide::<Standing, Table, Table>(left, right, 0, 0, cells) {
-        Ok(decision) => Ok(Run {
-            sweeps: decision.sweeps,
-            time: start.elapsed(clock)?,
-        }),
-        Err(_) => Err(anyhow!("the comparison is refused")),
-    }
+    let decided = decide::<Standing, Table, Table>(left, right, 0, 0, cells);
+    let time = start.elapsed(clock)?;
+    let decision = decided.map_err(|_| anyhow!("the comparison is refused"))?;
+    Ok(Run {
+        sweeps: decision.sweeps,
+        time,
+    })
 }
 
 // The fastest of so many runs, of one at least.
@@ -53,11 +53,5 @@ pub fn fastest(
 pub fn count_zeros(cells: &[u32]) -> usize
     ensures { result ≡ count_by (λ cell. nat_eq cell 0) cells.now }
 {
-    let mut zeros = 0;
-    for cell in cells {
-        if *cell == 0 {
-            zeros += 1;
-        }
-    }
-    zeros
+    cells.iter().filter(|&&cell| cell == 0).count()
 }

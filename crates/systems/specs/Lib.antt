@@ -1,2 +1,4 @@
+pub mod StateLists
 pub mod Listings
 pub mod Rows
+pub mod Ahead

@@ -3,6 +3,7 @@ ghost use Rattle.theory.specs.Systems.{Lts, Lawful};
 ghost use Rattle.actions.specs.Transitions.{moves_of};
 
 use super::system::System;
+use super::transitions::transitions_of;
 use actions::action::Action;
 use std::alloc::{AllocError, Global};
 
@@ -60,11 +61,6 @@ impl<'a, S: System> Lists for Asked<'a, S> {
         s: usize,
         out: &mut Vec<(Action, usize)>,
     ) -> Result<(), AllocError> {
-        for k in 0..self.system.count(s) {
-            if let Some(m) = self.system.nth(s, k) {
-                out.push(m)?;
-            }
-        }
-        Ok(())
+        out.extend(transitions_of(self.system, s))
     }
 }

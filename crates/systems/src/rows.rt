@@ -1,5 +1,7 @@
+use super::limits;
+
 // The limits of a table.
-pub const MOST_STATES: u32 = 1024;
+pub const MOST_STATES: u32 = limits::MOST_STATES as u32;
 
 pub const MOST_ROWS: usize = 4096;
 

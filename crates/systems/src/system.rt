@@ -27,6 +27,7 @@ pub trait System {
         ensures { Kth ((meaning self.now).moves s) k result };
 }
 
+// A lent system. Each question is passed on, since each has a name and a contract of its own.
 impl<S: System> System for &S {
     ghost meaning = { λ x. S.System.meaning x.now };
 

@@ -6,5 +6,5 @@ pub struct Table {
     listed: Listed,
 }
 
+mod lists;
 mod reads;
-mod source;

@@ -12,20 +12,18 @@ use systems::table::Table;
 use verdicts::decide::{Decision, decide};
 
 fn print_decision(rt: &impl Print, name: &str, decision: Decision) -> anyhow::Result<()> {
-    let sweeps = decision.sweeps;
     match decision.verdict {
-        Verdict::Equal => println!(rt; "{name}: equal, {sweeps} sweeps")?,
+        Verdict::Equal => println!(rt; "{name}: equal, {} sweeps", decision.sweeps)?,
         Verdict::Different(round) => println!(rt;
-            "{name}: different, round {round}, {sweeps} sweeps"
+            "{name}: different, round {round}, {} sweeps",
+            decision.sweeps
         )?,
     }
     Ok(())
 }
 
 fn table_of(rt: &impl AllocGlobal, part: &Part) -> anyhow::Result<Table> {
-    if check_rows(part.states, part.rows).is_err() {
-        return Err(anyhow!("the rows are no table"));
-    }
+    check_rows(part.states, part.rows).map_err(|_| anyhow!("the rows are no table"))?;
     Ok(Table::new(rt.alloc(), part.states, part.rows)?)
 }
 
@@ -41,8 +39,7 @@ fn compare(rt: &HostRuntime, pair: &Pair, cells: &mut [u32]) -> anyhow::Result<(
     ) {
         Ok(decision) => print_decision(rt, pair.name, decision),
         Err(refusal) => {
-            let number = refusal.number();
-            println!(rt; "{}: refused {number}", pair.name)?;
+            println!(rt; "{}: refused {}", pair.name, refusal.number())?;
             Ok(())
         }
     }

@@ -1,5 +1,8 @@
 // The pairs, as tables. Channel 1 is a, or deliver; channel 2 is b, or the request to take over; channel 3 is c, or serve. The
 // code of a name on channel c is 4 * c, and one more if it is prioritised; i_ is code 1.
+use example_tables::choice::{EARLY, LATE};
+use example_tables::rows;
+use example_tables::small::SINGLE;
 use systems::rows::Row;
 
 pub struct Part {
@@ -14,172 +17,23 @@ pub struct Pair {
     pub right: Part,
 }
 
-// a.(b.0 + c.0), its states numbered from the last
-const LATE: [Row; 3] = [
-    Row {
-        from: 2,
-        code: 4,
-        to: 1,
-    },
-    Row {
-        from: 1,
-        code: 8,
-        to: 0,
-    },
-    Row {
-        from: 1,
-        code: 12,
-        to: 0,
-    },
-];
-
-// a.b.0 + a.c.0, likewise: the choice is made a step earlier
-const EARLY: [Row; 4] = [
-    Row {
-        from: 3,
-        code: 4,
-        to: 2,
-    },
-    Row {
-        from: 3,
-        code: 4,
-        to: 1,
-    },
-    Row {
-        from: 2,
-        code: 8,
-        to: 0,
-    },
-    Row {
-        from: 1,
-        code: 12,
-        to: 0,
-    },
-];
-
 // a.0 + i_.0: the prioritised inner action pre-empts a
-const OFFERED: [Row; 2] = [
-    Row {
-        from: 0,
-        code: 4,
-        to: 1,
-    },
-    Row {
-        from: 0,
-        code: 1,
-        to: 1,
-    },
-];
+const OFFERED: [Row; 2] = rows![(0, 4, 1), (0, 1, 1)];
 
 // i_.0
-const TAKEN: [Row; 1] = [Row {
-    from: 0,
-    code: 1,
-    to: 1,
-}];
+const TAKEN: [Row; 1] = rows![(0, 1, 1)];
 
 // a.0 + b_.0: a prioritised visible action pre-empts nothing
-const BESIDE: [Row; 2] = [
-    Row {
-        from: 0,
-        code: 4,
-        to: 1,
-    },
-    Row {
-        from: 0,
-        code: 9,
-        to: 1,
-    },
-];
-
-// b_.0
-const ALONE: [Row; 1] = [Row {
-    from: 0,
-    code: 9,
-    to: 1,
-}];
+const BESIDE: [Row; 2] = rows![(0, 4, 1), (0, 9, 1)];
 
 // The mirror as it is wanted. State 0 delivers until it is asked to take over; state 1 takes over at once; state 2 serves.
-const WANTED: [Row; 4] = [
-    Row {
-        from: 0,
-        code: 4,
-        to: 0,
-    },
-    Row {
-        from: 0,
-        code: 9,
-        to: 1,
-    },
-    Row {
-        from: 1,
-        code: 1,
-        to: 2,
-    },
-    Row {
-        from: 2,
-        code: 12,
-        to: 2,
-    },
-];
+const WANTED: [Row; 4] = rows![(0, 4, 0), (0, 9, 1), (1, 1, 2), (2, 12, 2)];
 
 // A mirror that still offers delivery when it is asked to take over, but takes over with priority.
-const PRE_EMPTS: [Row; 5] = [
-    Row {
-        from: 0,
-        code: 4,
-        to: 0,
-    },
-    Row {
-        from: 0,
-        code: 9,
-        to: 1,
-    },
-    Row {
-        from: 1,
-        code: 4,
-        to: 1,
-    },
-    Row {
-        from: 1,
-        code: 1,
-        to: 2,
-    },
-    Row {
-        from: 2,
-        code: 12,
-        to: 2,
-    },
-];
+const PRE_EMPTS: [Row; 5] = rows![(0, 4, 0), (0, 9, 1), (1, 4, 1), (1, 1, 2), (2, 12, 2)];
 
 // A mirror that takes over without priority: a delivery can overtake the takeover, and is lost.
-const OVERTAKES: [Row; 5] = [
-    Row {
-        from: 0,
-        code: 4,
-        to: 0,
-    },
-    Row {
-        from: 0,
-        code: 9,
-        to: 1,
-    },
-    Row {
-        from: 1,
-        code: 4,
-        to: 1,
-    },
-    Row {
-        from: 1,
-        code: 0,
-        to: 2,
-    },
-    Row {
-        from: 2,
-        code: 12,
-        to: 2,
-    },
-];
+const OVERTAKES: [Row; 5] = rows![(0, 4, 0), (0, 9, 1), (1, 4, 1), (1, 0, 2), (2, 12, 2)];
 
 pub const PAIRS: [Pair; 5] = [
     Pair {
@@ -218,7 +72,7 @@ pub const PAIRS: [Pair; 5] = [
         right: Part {
             states: 2,
             start: 0,
-            rows: &ALONE,
+            rows: &SINGLE,
         },
     },
     Pair {

@@ -1,8 +1,6 @@
-pub mod Stores
 pub mod Tables
 pub mod Faults
 pub mod Scans
-pub mod Patients
 pub mod Laws
 pub mod Truth
 pub mod Members

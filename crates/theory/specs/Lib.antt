@@ -4,7 +4,6 @@ pub mod Layers
 pub mod Bisimulations
 pub mod Operators
 pub mod Limits
-pub mod Stores
 pub mod Tables
 pub mod Faults
 pub mod Equivalence

@@ -4,9 +4,8 @@ use Rattle.theory.specs.Systems.{Lts}
 use Rattle.theory.specs.Layers.{Layering, shown}
 use Rattle.theory.specs.Bisimulations.{EqualUnder}
 use Rattle.refinement.specs.Rounds.{StruckIn, Rounds}
-use Rattle.refinement.specs.Runs.{pairs, BegunCells, SettledByRun}
+use Rattle.refinement.specs.Runs.{SettledByRun}
 use Rattle.comparison.specs.Comparisons.{begin_fault}
-use Rattle.comparison.specs.declared.comparison.Open.{Open}
 use Rattle.comparison.specs.declared.comparison.Settled.{Settled}
 use Rattle.comparison.specs.declared.comparison.Refusal.{Refusal}
 use Rattle.comparison.specs.declared.comparison.Refusal.TheVariants.{Outsize, FewCells, NoSuchState}
@@ -44,18 +43,11 @@ LeftBy None y A B old new = Final y A B new × Past (A.n * B.n) old new
 abbrev pub DecidedCells : Layering → Lts → Lts → List ℕ → ℕ → ℕ → List ℕ → Type 0
 DecidedCells y A B old s t new = LeftBy (decide_fault A.n B.n (length old) s t) y A B old new
 
--- A comparison that has just begun on M and N, with the cells.
-abbrev pub BeginsRun : {Y : Type 0} → Lts → Lts → Open Y → List ℕ → Type 0
-BeginsRun M N o cells = (o.n1 ≡ M.n) × (o.n2 ≡ N.n) × (o.made ≡ 0) × (pairs M N ≤ length cells) × BegunCells M N cells
-
 -- A settled comparison and the cells come from a run on M and N.
 abbrev pub EndsRun : {Y : Type 0} → Lts → Lts → Settled Y → List ℕ → Type 0
-EndsRun M N o cells = SettledByRun M N o.n1 o.n2 o.made cells
+EndsRun M N o cells = SettledByRun M N o.progress.n1 o.progress.n2 o.progress.made cells
 
-abbrev pub Settles : {Y : Type 0} → Lts → Lts → Result (Settled Y) Refusal → List ℕ → Type 0
-Settles M N (Ok o) cells = EndsRun M N o cells
-Settles M N (Err f) cells = ⊥
-
--- The answer, once begin has passed.
-abbrev pub Judged : Layering → Lts → Lts → ℕ → ℕ → Result Decision Refusal → Type 0
-Judged y A B s t r = (len : ℕ) → begin_fault A.n B.n len ≡ None → Decided y A B len s t r
+-- A comparison that is settled in one call comes from a run on M and N, unless begin refuses it.
+abbrev pub Settles : {Y : Type 0} → Lts → Lts → ℕ → Result (Settled Y) Refusal → List ℕ → Type 0
+Settles M N len (Ok o) cells = (begin_fault M.n N.n len ≡ None) × EndsRun M N o cells
+Settles M N len (Err f) cells = begin_fault M.n N.n len ≡ Some f

@@ -11,37 +11,33 @@ const LAST_CODE: Row = Row {
 };
 
 const NO_CODE: Row = Row {
-    from: 0,
     code: 244,
-    to: 0,
+    ..LAST_CODE
 };
 
-fn print_row(rt: &impl Print, row: Row) -> anyhow::Result<()> {
-    let code = row.code;
-    match check_rows(1, &[row]) {
-        Ok(()) => println!(rt; "code {code}: passes")?,
-        Err(refusal) => {
-            let number = refusal.number();
-            let place = refusal.place();
-            println!(rt; "code {code}: refused {number} at row {place}")?
+pub fn print_codes(rt: &impl Print) -> anyhow::Result<()> {
+    for row in [LAST_CODE, NO_CODE] {
+        match check_rows(1, &[row]) {
+            Ok(()) => println!(rt; "code {}: passes", row.code)?,
+            Err(refusal) => println!(rt;
+                "code {}: refused {} at row {}",
+                row.code,
+                refusal.number(),
+                refusal.place()
+            )?,
         }
     }
     Ok(())
 }
 
-pub fn print_codes(rt: &impl Print) -> anyhow::Result<()> {
-    print_row(rt, LAST_CODE)?;
-    print_row(rt, NO_CODE)
-}
-
 fn print_pair(rt: &impl Print, name: &str, left: &Table, right: &Table) -> anyhow::Result<()> {
     let both = Parallel::new(left, right);
-    let states = both.states();
-    let width = both.width();
-    if states == 0 {
-        println!(rt; "parallel of {name}: outsize")?;
-    } else {
-        println!(rt; "parallel of {name}: {states} states, width {width}")?;
+    match both.states() {
+        0 => println!(rt; "parallel of {name}: outsize")?,
+        states => println!(rt;
+            "parallel of {name}: {states} states, width {}",
+            both.width()
+        )?,
     }
     Ok(())
 }

@@ -7,8 +7,7 @@ mod protocols;
 use worked_examples::worked_examples_hold;
 
 fn run(rt: &HostRuntime) -> anyhow::Result<()> {
-    let proved = worked_examples_hold();
-    println!(rt; "{proved} examples are proved")?;
+    println!(rt; "{} examples are proved", worked_examples_hold())?;
     limits::print_codes(rt)?;
     limits::print_sizes(rt)?;
     protocols::print_checks(rt)?;

@@ -1,23 +1,24 @@
 -- What the writers write over a settled run is accepted.
-use Rattle.std.proofs.Common.{◌≡◌, ℕ, ◌+◌, ◌*◌, ◌<◌, ◌≤◌, Bool, false, cond, ◌&&◌, eqb, ltb, leb, ◌⊎◌, List, length, take, Some, None, Ok, Err, Option, Result, sym, refl, ap, ◌∙◌, subst, inl, inr, arith}
-use Rattle.std.proofs.lemmas.Bool.{cases_lt, le-leb, leb-true, ltb-true, and_parts, eq-eqb}
+use Rattle.std.proofs.Common.{◌≡◌, ℕ, ◌+◌, ◌*◌, ◌<◌, ◌≤◌, false, cond, leb, List, length, take, Some, None, Ok, Err, Option, Result, sym, refl, ap, ◌∙◌, subst, inl, inr, arith}
+use Rattle.std.proofs.lemmas.Option.{none-some}
+use Rattle.std.proofs.lemmas.Bool.Decides.{nat_tests}
+use Rattle.std.proofs.lemmas.Bool.{cases_lt, le-leb, eq-eqb}
 use Rattle.theory.specs.Systems.{Lts, Lawful}
 use Rattle.theory.specs.Bisimulations.{Bisimilar}
 use Rattle.refinement.specs.Runs.{Run, SettledByRun, VerdictLaw}
 use Rattle.refinement.proofs.Ranges.{lawful_in_range}
 use Rattle.refinement.proofs.Rounds.{struck_exact}
 use Rattle.refinement.proofs.Runs.{runs_exact}
-use Rattle.comparison.specs.declared.comparison.Settled.{Settled}
+use Rattle.comparison.specs.declared.comparison.progress.Progress.{Progress}
 use Rattle.comparison.specs.declared.comparison.Refusal.{Refusal}
-use Rattle.comparison.specs.declared.comparison.Refusal.TheVariants.{FewCells, OtherSizes, NoSuchState}
 use Rattle.comparison.specs.Comparisons.{verdict_of, judged, verdict_fault, verdict_answer}
+use Rattle.comparison.proofs.Verdicts.{asked_inside}
 use Rattle.comparison.specs.declared.comparison.Verdict.{Verdict}
 use Rattle.comparison.specs.declared.comparison.Verdict.TheVariants.{Equal, Different}
 use Rattle.certificates.specs.declared.rows.EqualRow.{EqualRow}
 use Rattle.certificates.specs.declared.rows.DifferentRow.{DifferentRow}
 use Rattle.certificates.specs.EqualSheets.{AcceptedEqual}
 use Rattle.certificates.specs.Listings.{is_zero, equal_listing, different_numbers, DifferentListing}
-use Rattle.certificates.proofs.Checks.{cond_none}
 use Rattle.certificates.proofs.EqualListings.{listing_accepted, number_below}
 use Rattle.certificates.proofs.DifferentListings.{different_listing_accepted}
 use Rattle.certificates.proofs.Cells.{Tells, zeros_closed, struck_backed}
@@ -25,9 +26,6 @@ use Rattle.writers.specs.declared.refusal.WriteRefusal.{WriteRefusal}
 use Rattle.writers.specs.declared.refusal.WriteRefusal.TheVariants.{NoMove, FewRows}
 use Rattle.writers.specs.Writes.{cell_of, lacks_move, equal_write_fault, different_write_fault, Written, EqualWritten, DifferentWritten}
 use Rattle.writers.proofs.Entries.{has_all}
-
-some_none : {Y A : Type 0} (y : Y) (o : Option Y) → o ≡ Some y → o ≡ None → A
-some_none y o e f = let z : ◌≡◌ {A = ℕ} 0 1 = cc in absurd (omega arith)
 
 -- the cells of a settled run tell the rounds
 pub run_tells : (M N : Lts) → Lawful M → Lawful N → (made : ℕ) (cells : List ℕ) → Run M N false made cells → Tells M N (cell_of cells)
@@ -43,21 +41,16 @@ module _ (M N : Lts) (lM : Lawful M) (lN : Lawful N) (n1 n2 made : ℕ) (cells :
   equal_law old new (Err f) same w run ls lt b room =
       let count = length (equal_listing N.n (is_zero (cell_of cells)) (M.n * N.n)) in
       let eq = (law run ls lt).0.0.1 b in
-      some_none f (equal_write_fault verdict count (length old)) w.0
-      (ap (λ v. equal_write_fault v count (length old)) eq ∙ ap (λ v. cond v None (Some FewRows)) (le-leb count (length old) (omega (arith, room, same))))
+      absurd (none-some f (sym (ap (λ v. equal_write_fault v count (length old)) eq ∙ ap (λ v. cond v None (Some FewRows)) (le-leb count (length old) (omega (arith, room, same)))) ∙ w.0))
   equal_law old new (Ok m) same w run ls lt b room =
       let tells = run_tells M N lM lN made cells run.3 in
       let zero = (runs_exact M N (lawful_in_range M lM) (lawful_in_range N lN) made cells run.3 s t ls lt).0.1 b in
       (m, refl, subst (λ list. AcceptedEqual M N list s t) (sym w.2) (listing_accepted M N lM lN (is_zero (cell_of cells)) (zeros_closed M N lM lN (cell_of cells) tells) s t ls lt (eq-eqb _ 0 zero)))
 
 -- the listing, as it is found where the verdict is equal
-pub equal_found : (verdict : Result Verdict Refusal) → verdict ≡ Ok Equal → (p : ℕ → Bool) (m1 m2 n1 n2 len : ℕ) → m1 ≡ n1 → m2 ≡ n2 → (old new : List EqualRow) (r : Result ℕ WriteRefusal)
-    → Written (cond (leb (length (equal_listing m2 p (m1 * m2))) len) None (Some FewRows)) (λ list. list ≡ equal_listing m2 p (m1 * m2)) old new r
-    → Written (equal_write_fault verdict (length (equal_listing n2 p (n1 * n2))) len) (λ list. list ≡ equal_listing n2 p (n1 * n2)) old new r
-equal_found verdict e p m1 m2 n1 n2 len e1 e2 old new r w =
-    subst (λ v. Written (equal_write_fault v (length (equal_listing n2 p (n1 * n2))) len) (λ list. list ≡ equal_listing n2 p (n1 * n2)) old new r) (sym e)
-    (subst (λ v. Written (cond (leb (length (equal_listing n2 p (v * n2))) len) None (Some FewRows)) (λ list. list ≡ equal_listing n2 p (v * n2)) old new r) e1
-    (subst (λ v. Written (cond (leb (length (equal_listing v p (m1 * v))) len) None (Some FewRows)) (λ list. list ≡ equal_listing v p (m1 * v)) old new r) e2 w))
+pub equal_found : (verdict : Result Verdict Refusal) → verdict ≡ Ok Equal → (count len : ℕ) (Is : List EqualRow → Type 0) (old new : List EqualRow) (r : Result ℕ WriteRefusal)
+    → Written (cond (leb count len) None (Some FewRows)) Is old new r → Written (equal_write_fault verdict count len) Is old new r
+equal_found verdict e count len Is old new r w = subst (λ v. Written (equal_write_fault v count len) Is old new r) (sym e) w
 
 module _ (M N : Lts) (lM : Lawful M) (lN : Lawful N) (n1 n2 made : ℕ) (cells : List ℕ) (s t : ℕ) (verdict : Result Verdict Refusal)
     (law : VerdictLaw (Ok Equal) (λ v. Ok (Different v)) M N n1 n2 made cells s t verdict) where
@@ -77,34 +70,24 @@ module _ (M N : Lts) (lM : Lawful M) (lN : Lawful N) (n1 n2 made : ℕ) (cells :
       let v = (struck_exact M N (lawful_in_range M lM) (lawful_in_range N lN) s t ls lt).1 apart in
       let eq = ((law run ls lt).0.1 v.0).1 v.1 in
       let all = has_all M N (cell_of cells) a (number_below M.n N.n s t ls lt) pos (struck_backed M N lM lN (cell_of cells) (run_tells M N lM lN made cells run.3)) in
-      some_none f (different_write_fault verdict (lacks_move M N (cell_of cells) a) count (length old)) w.0
-      (ap (λ u. different_write_fault u (lacks_move M N (cell_of cells) a) count (length old)) eq
+      absurd (none-some f (sym (ap (λ u. different_write_fault u (lacks_move M N (cell_of cells) a) count (length old)) eq
       ∙ ap (λ b. cond b (Some NoMove) (cond (leb count (length old)) None (Some FewRows))) all
-      ∙ ap (λ b. cond b None (Some FewRows)) (le-leb count (length old) (omega (arith, room, same))))
+      ∙ ap (λ b. cond b None (Some FewRows)) (le-leb count (length old) (omega (arith, room, same)))) ∙ w.0))
   different_law old new (Ok m) same w run ls lt apart room =
       (m, refl, different_listing_accepted M N lM lN (cell_of cells) s t ls lt (struck_cell run ls lt apart) (take m new) w.2)
 
 -- what is known where the verdict is different
-pub different_verdict : {Y : Type 0} (o : Settled Y) (n1 n2 : ℕ) (cells : List ℕ) (s t v : ℕ) → verdict_answer o n1 n2 cells s t ≡ Ok (Different v)
+pub different_verdict : (o : Progress) (n1 n2 : ℕ) (cells : List ℕ) (s t v : ℕ) → verdict_answer o n1 n2 cells s t ≡ Ok (Different v)
     → (n1 * n2 ≤ length cells) × (s < n1) × (t < n2) × (0 < cell_of cells (s * n2 + t))
 different_verdict o n1 n2 cells s t v h = go (verdict_fault o n1 n2 (length cells) s t) refl h
   where
     go : (f : Option Refusal) → verdict_fault o n1 n2 (length cells) s t ≡ f → judged f (cell_of cells (s * n2 + t)) ≡ Ok (Different v)
         → (n1 * n2 ≤ length cells) × (s < n1) × (t < n2) × (0 < cell_of cells (s * n2 + t))
-    go (Some f) e j = absurd (let z : ◌≡◌ {A = ℕ} 0 1 = cc in omega arith)
-    go None e j =
-        let a = cond_none (eqb o.n1 n1 && eqb o.n2 n2) (cond (leb (n1 * n2) (length cells)) (cond (ltb s n1 && ltb t n2) None (Some NoSuchState)) (Some FewCells)) OtherSizes e in
-        let b = cond_none (leb (n1 * n2) (length cells)) (cond (ltb s n1 && ltb t n2) None (Some NoSuchState)) FewCells a.1 in
-        let d = and_parts (ltb s n1) (ltb t n2) (cond_none (ltb s n1 && ltb t n2) None NoSuchState b.1).0 in
-        (leb-true (n1 * n2) (length cells) b.0, ltb-true s n1 d.0, ltb-true t n2 d.1, struck (cases_lt 0 (cell_of cells (s * n2 + t))))
+    go (Some f) e j = let z : ⊥ = grind arith in elim z [ ]
+    go None e j = let p = asked_inside (o.n1, o.n2) n1 n2 (length cells) s t (sym e) in (p.0, p.1, p.2, struck (cell_of cells (s * n2 + t)) j)
       where
-        struck : (0 < cell_of cells (s * n2 + t)) ⊎ (cell_of cells (s * n2 + t) ≤ 0) → 0 < cell_of cells (s * n2 + t)
-        struck (inl p) = p
-        struck (inr z) =
-            let zero : cell_of cells (s * n2 + t) ≡ 0 = omega arith in
-            let is : verdict_of (cell_of cells (s * n2 + t)) ≡ Equal = ap (λ c. cond c Equal (Different (cell_of cells (s * n2 + t)))) (eq-eqb (cell_of cells (s * n2 + t)) 0 zero) in
-            let clash : ◌≡◌ {A = Result Verdict Refusal} (Ok Equal) (Ok (Different v)) = sym (ap Ok is) ∙ j in
-            absurd (let z : ◌≡◌ {A = ℕ} 0 1 = cc in omega arith)
+        struck : (c : ℕ) → ◌≡◌ {A = Result Verdict Refusal} (Ok (verdict_of c)) (Ok (Different v)) → 0 < c
+        struck c k = grind (arith, nat_tests)
 
 -- the listing, as it is found where the verdict is different
 pub different_found : (M N : Lts) (cell : ℕ → ℕ) (verdict : Result Verdict Refusal) (v : ℕ) → verdict ≡ Ok (Different v) → (a b len : ℕ) → a ≡ b → (old new : List DifferentRow) (r : Result ℕ WriteRefusal)

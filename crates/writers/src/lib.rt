@@ -2,10 +2,9 @@
 // answers are exact on any cells.
 #![tactic(auto)]
 
+mod cells;
 pub mod different;
-mod entry;
 pub mod equal;
 mod lower;
-mod pairs;
 pub mod refusal;
-mod rounds;
+mod struck;

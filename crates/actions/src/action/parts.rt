@@ -36,10 +36,9 @@ impl Action {
     pub fn meets(self, other: Action) -> bool
         ensures { result ≡ meeting self.code other.code }
     {
-        self.code >= 4
-            && other.code >= 4
-            && self.code / 4 == other.code / 4
-            && self.code % 2 == other.code % 2
-            && self.code / 2 % 2 != other.code / 2 % 2
+        !self.is_inner()
+            && self.channel() == other.channel()
+            && self.is_prioritised() == other.is_prioritised()
+            && self.is_co_name() != other.is_co_name()
     }
 }

@@ -4,22 +4,20 @@ ghost use Rattle.book.specs.Plain.{blank, at, change_in, enter_fault, entered, p
 ghost use Rattle.book.specs.Views.{view, Slipped, ProofAnswer, outcome};
 
 use super::pending::index_of;
-use super::{Book, Closed, Slip};
+use super::{Book, Closed, SOCKETS, Slip};
 use crate::fault::BookFault;
-use crate::socket::{Change, Holding, Socket};
+use crate::socket::{Change, Holding};
 use certificates::rows::EqualRow;
 use layers::standing::Standing;
 use sheets::equal::check_equal;
 use systems::system::System;
-
-const MOST_PROPOSED: u16 = 65535;
 
 impl Book {
     pub fn new() -> Book
         ensures { view result ≡ blank }
     {
         Book {
-            sockets: [Socket::Empty; 16],
+            sockets: [None; SOCKETS],
             proposed: 0,
             taken: 0,
             dropped: 0,
@@ -37,17 +35,15 @@ impl Book {
         ensures answer { result ≡ passed (enter_fault (S.System.meaning system.now).n (view self.old) socket state) }
         ensures same { OnErr result (self.new ≡ self.old) }
     {
-        let Some(i) = index_of(socket) else {
-            return Err(BookFault::NoSocket(socket));
-        };
+        let i = index_of(socket).ok_or(BookFault::NoSocket(socket))?;
         if state >= system.states() {
             return Err(BookFault::NoState(socket));
         }
-        let at = self.sockets[i];
-        if let Socket::Filled(_) = at {
+        let held = self.sockets[i];
+        if held.is_some() {
             return Err(BookFault::Occupied(socket));
         }
-        self.sockets[i] = Socket::Filled(Holding {
+        self.sockets[i] = Some(Holding {
             first: state,
             current: state,
             change: None,
@@ -66,33 +62,23 @@ impl Book {
         ensures answer { Slipped (propose_fault (S.System.meaning system.now).n (view self.old) socket state) socket (self.old.proposed + 1) result }
         ensures same { OnErr result (self.new ≡ self.old) }
     {
-        let Some(i) = index_of(socket) else {
-            return Err(BookFault::NoSocket(socket));
-        };
+        let i = index_of(socket).ok_or(BookFault::NoSocket(socket))?;
         if state >= system.states() {
             return Err(BookFault::NoState(socket));
         }
-        let at = self.sockets[i];
-        let Socket::Filled(held) = at else {
-            return Err(BookFault::Vacant(socket));
-        };
-        let change = held.change;
-        if let Some(_) = change {
+        let held = self.sockets[i].ok_or(BookFault::Vacant(socket))?;
+        if held.change.is_some() {
             return Err(BookFault::ChangeOpen(socket));
         }
-        if self.proposed >= MOST_PROPOSED {
-            return Err(BookFault::Full(socket));
-        }
-        let number = self.proposed + 1;
+        let number = self.proposed.checked_add(1).ok_or(BookFault::Full(socket))?;
         self.proposed = number;
-        self.sockets[i] = Socket::Filled(Holding {
-            first: held.first,
-            current: held.current,
+        self.sockets[i] = Some(Holding {
             change: Some(Change {
                 state,
                 number,
                 proved: false,
             }),
+            ..held
         });
         Ok(Slip { socket, number })
     }
@@ -108,18 +94,16 @@ impl Book {
         ensures answer { ProofAnswer (S.System.meaning system.now) (view self.old) slip.now.socket slip.now.number rows.now result }
         ensures same { OnErr result (self.new ≡ self.old) }
     {
-        let Some(p) = self.pending(slip.socket, slip.number) else {
-            return Err(BookFault::NoChange(slip.socket));
-        };
+        let p = self
+            .pending(slip.socket, slip.number)
+            .ok_or(BookFault::NoChange(slip.socket))?;
         check_equal::<Standing, S, S>(system, system, rows, p.held.current, p.change.state)?;
-        self.sockets[p.index] = Socket::Filled(Holding {
-            first: p.held.first,
-            current: p.held.current,
+        self.sockets[p.index] = Some(Holding {
             change: Some(Change {
-                state: p.change.state,
-                number: p.change.number,
                 proved: true,
+                ..p.change
             }),
+            ..p.held
         });
         Ok(())
     }
@@ -129,24 +113,24 @@ impl Book {
         ensures step { view self.new ≡ closed (view self.old) slip.socket slip.number }
         ensures answer { result ≡ outcome (change_in (at (view self.old) slip.socket) slip.number) }
     {
-        let Slip { socket, number } = slip;
-        let Some(p) = self.pending(socket, number) else {
+        let pending = self.pending(slip.socket, slip.number);
+        slip.spend();
+        let Some(p) = pending else {
             return Closed::Nothing;
         };
         if p.change.proved {
             self.taken += 1;
-            self.sockets[p.index] = Socket::Filled(Holding {
-                first: p.held.first,
+            self.sockets[p.index] = Some(Holding {
                 current: p.change.state,
                 change: None,
+                ..p.held
             });
             Closed::Taken
         } else {
             self.dropped += 1;
-            self.sockets[p.index] = Socket::Filled(Holding {
-                first: p.held.first,
-                current: p.held.current,
+            self.sockets[p.index] = Some(Holding {
                 change: None,
+                ..p.held
             });
             Closed::Dropped
         }

@@ -2,10 +2,8 @@ ghost use Rattle.std.specs.Prelude.{◌≡◌, ◌-◌, if◌then◌else◌, Som
 ghost use Rattle.book.specs.Plain.{socket_number};
 ghost use Rattle.book.specs.Openings.{Opened};
 
-use super::Book;
-use crate::socket::{Change, Holding, Socket};
-
-const SOCKETS: usize = 16;
+use super::{Book, SOCKETS};
+use crate::socket::{Change, Holding};
 
 // Where the socket of that number stands.
 pub fn index_of(socket: usize) -> Option<usize>
@@ -31,17 +29,9 @@ impl Book {
     pub fn pending(&self, socket: usize, number: u16) -> Option<Pending>
         ensures { Opened self.now.sockets socket number result }
     {
-        let Some(index) = index_of(socket) else {
-            return None;
-        };
-        let at = self.sockets[index];
-        let Socket::Filled(held) = at else {
-            return None;
-        };
-        let open = held.change;
-        let Some(change) = open else {
-            return None;
-        };
+        let index = index_of(socket)?;
+        let held = self.sockets[index]?;
+        let change = held.change?;
         if change.number != number {
             return None;
         }

@@ -1,39 +1,31 @@
-ghost use Rattle.std.specs.Prelude.{◌≡◌};
+ghost use Rattle.std.specs.Prelude.{◌≡◌, option_map};
 ghost use Rattle.book.specs.Plain.{at};
-ghost use Rattle.book.specs.Questions.{first_of, current_of};
 ghost use Rattle.book.specs.Views.{view};
 
 use super::Book;
 use super::pending::index_of;
-use crate::socket::Socket;
+use crate::socket::Holding;
 
 impl Book {
+    // What fills the socket, if it is a socket and filled.
+    fn holding(&self, socket: usize) -> Option<Holding>
+        ensures { result ≡ at (view self.now) socket }
+    {
+        self.sockets[index_of(socket)?]
+    }
+
     // The state that the socket was filled with, if it is a socket and filled.
     pub fn first(&self, socket: usize) -> Option<usize>
-        ensures { result ≡ first_of (at (view self.now) socket) }
+        ensures { result ≡ option_map (λ h. h.first) (at (view self.now) socket) }
     {
-        let Some(i) = index_of(socket) else {
-            return None;
-        };
-        let at = self.sockets[i];
-        match at {
-            Socket::Empty => None,
-            Socket::Filled(held) => Some(held.first),
-        }
+        self.holding(socket).map(|h| h.first)
     }
 
     // The state that the socket holds now, if it is a socket and filled.
     pub fn current(&self, socket: usize) -> Option<usize>
-        ensures { result ≡ current_of (at (view self.now) socket) }
+        ensures { result ≡ option_map (λ h. h.current) (at (view self.now) socket) }
     {
-        let Some(i) = index_of(socket) else {
-            return None;
-        };
-        let at = self.sockets[i];
-        match at {
-            Socket::Empty => None,
-            Socket::Filled(held) => Some(held.current),
-        }
+        self.holding(socket).map(|h| h.current)
     }
 
     // How many changes were proposed.

@@ -7,14 +7,6 @@ use super::{Book, Slip};
 use crate::request::Request;
 use systems::system::System;
 
-// Lets a slip go, which only the book's own code can do.
-fn forget(slip: Slip) {
-    let Slip {
-        socket: _,
-        number: _,
-    } = slip;
-}
-
 impl Book {
     // Makes the call that is requested, and passes over its answer.
     fn make<S: System>(&mut self, system: &S, request: &Request)
@@ -26,7 +18,7 @@ impl Book {
             }
             Request::Propose { socket, state } => {
                 if let Ok(slip) = self.propose(system, *socket, *state) {
-                    forget(slip);
+                    slip.spend();
                 }
             }
             Request::Prove {
@@ -39,7 +31,7 @@ impl Book {
                     number: *number,
                 };
                 let _ = self.prove(system, &slip, rows.as_slice());
-                forget(slip);
+                slip.spend();
             }
             Request::Close { socket, number } => {
                 let slip = Slip {

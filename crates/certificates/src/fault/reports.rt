@@ -3,6 +3,13 @@ ghost use Rattle.certificates.specs.Faults.{report as report_of};
 
 use super::{Report, SheetFault};
 
+const NOTHING: Report = Report {
+    number: 0,
+    place: 0,
+    side: 0,
+    k: 0,
+};
+
 impl SheetFault {
     pub fn report(self) -> Report
         ensures { result ≡ report_of self }
@@ -10,33 +17,27 @@ impl SheetFault {
         match self {
             SheetFault::RowCount => Report {
                 number: 14,
-                place: 0,
-                side: 0,
-                k: 0,
+                ..NOTHING
             },
             SheetFault::NoSuchState { row } => Report {
                 number: 15,
                 place: row,
-                side: 0,
-                k: 0,
+                ..NOTHING
             },
             SheetFault::NoSuchMove { row } => Report {
                 number: 16,
                 place: row,
-                side: 0,
-                k: 0,
+                ..NOTHING
             },
             SheetFault::Unanswered { row, side, k } => Report {
                 number: 17,
                 place: row,
-                side,
+                side: side.number(),
                 k,
             },
             SheetFault::NotAsked => Report {
                 number: 18,
-                place: 0,
-                side: 0,
-                k: 0,
+                ..NOTHING
             },
         }
     }

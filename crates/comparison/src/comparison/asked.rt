@@ -2,10 +2,9 @@ ghost use Rattle.std.specs.Prelude.{◌≡◌, ◌+◌, ◌*◌, ◌≤◌, Ok};
 ghost use Rattle.theory.specs.Layers.{shown};
 ghost use Rattle.refinement.specs.Runs.{VerdictLaw};
 ghost use Rattle.comparison.specs.declared.comparison.Verdict.TheVariants.{Equal, Different};
-ghost use Rattle.comparison.specs.Comparisons.{verdict_of, verdict_fault, verdict_answer};
+ghost use Rattle.comparison.specs.Comparisons.{verdict_of, verdict_answer};
 
 use super::{Refusal, Settled, Verdict};
-use crate::pass::pairs_of;
 use layers::layer::Layer;
 use systems::system::System;
 
@@ -24,32 +23,10 @@ impl Verdict {
 impl<Y: Layer> Settled<Y> {
     // How many sweeps were made, the last included, which wrote nothing.
     pub fn sweeps(&self) -> u32
-        ensures value { result ≡ self.now.made }
-        ensures bound { result ≤ self.now.n1 * self.now.n2 + 1 }
+        ensures value { result ≡ self.now.progress.made }
+        ensures bound { result ≤ self.now.progress.n1 * self.now.progress.n2 + 1 }
     {
-        self.made
-    }
-
-    fn refuses<S: System, T: System>(
-        &self,
-        left: &S,
-        right: &T,
-        len: usize,
-        s: usize,
-        t: usize,
-    ) -> Option<Refusal>
-        ensures { result ≡ verdict_fault self.now (S.System.meaning left.now).n (T.System.meaning right.now).n len s t }
-    {
-        let pairs = pairs_of(left, right);
-        if self.n1 != left.states() || self.n2 != right.states() {
-            Some(Refusal::OtherSizes)
-        } else if len < pairs {
-            Some(Refusal::FewCells)
-        } else if s >= left.states() || t >= right.states() {
-            Some(Refusal::NoSuchState)
-        } else {
-            None
-        }
+        self.progress.made
     }
 
     // Whether the states are equal, or the round that struck them. Over every run that led to this comparison and these
@@ -62,12 +39,10 @@ impl<Y: Layer> Settled<Y> {
         s: usize,
         t: usize,
     ) -> Result<Verdict, Refusal>
-        ensures answer { result ≡ verdict_answer self.now (S.System.meaning left.now).n (T.System.meaning right.now).n cells.now s t }
-        ensures law { VerdictLaw (Ok Equal) (λ v. Ok (Different v)) (shown Y.Layer.rule (S.System.meaning left.now)) (shown Y.Layer.rule (T.System.meaning right.now)) self.now.n1 self.now.n2 self.now.made cells.now s t result }
+        ensures answer { result ≡ verdict_answer self.now.progress (S.System.meaning left.now).n (T.System.meaning right.now).n cells.now s t }
+        ensures law { VerdictLaw (Ok Equal) (λ v. Ok (Different v)) (shown Y.Layer.rule (S.System.meaning left.now)) (shown Y.Layer.rule (T.System.meaning right.now)) self.now.progress.n1 self.now.progress.n2 self.now.progress.made cells.now s t result }
     {
-        match self.refuses(left, right, cells.len(), s, t) {
-            Some(refusal) => Err(refusal),
-            None => Ok(Verdict::of(cells[s * right.states() + t])),
-        }
+        self.progress.check_verdict(left, right, cells.len(), s, t)?;
+        Ok(Verdict::of(cells[s * right.states() + t]))
     }
 }

@@ -5,6 +5,7 @@ use super::WrittenDesign;
 use actions::action::Action;
 use systems::system::System;
 
+// Each question is passed on to the store: a design is more than its store, which does not know the start.
 impl System for WrittenDesign {
     ghost meaning = { λ x. (meant x).sys };
 

@@ -1,7 +1,8 @@
-ghost use Rattle.std.specs.Prelude.{◌≡◌, map, IfOk};
-ghost use Rattle.designs.specs.Operations.{form_of};
+ghost use Rattle.std.specs.Prelude.{◌≡◌, IfOk};
+ghost use Rattle.designs.specs.Operations.{forms_in};
 ghost use Rattle.designs.specs.Nodes.{forms};
 
+use super::super::entry::Entry;
 use super::super::node::Node;
 use super::super::reading::operation_or_nil;
 use super::super::shaping::shape_of;
@@ -11,16 +12,14 @@ use std::alloc::{AllocError, Global};
 impl Outline {
     // The operations are those of the nodes, faulty ones being nil.
     pub fn of(heap: Global, nodes: &[Node]) -> Result<Outline, AllocError>
-        ensures { IfOk result (λ x. map form_of x.operations.items ≡ forms nodes.now) }
+        ensures { IfOk result (λ x. forms_in x.entries.items ≡ forms nodes.now) }
     {
-        let mut operations = Vec::new(heap);
-        let mut shapes = Vec::new(heap);
-        for i in 0..nodes.len() {
-            let operation = operation_or_nil(i, nodes[i]);
-            let shape = shape_of(operation, shapes.as_slice(), i);
-            operations.push(operation)?;
-            shapes.push(shape)?;
+        let mut entries = Vec::new(heap);
+        for (i, node) in nodes.iter().enumerate() {
+            let operation = operation_or_nil(i, *node);
+            let shape = shape_of(operation, entries.as_slice());
+            entries.push(Entry { operation, shape })?;
         }
-        Ok(Outline { operations, shapes })
+        Ok(Outline { entries })
     }
 }

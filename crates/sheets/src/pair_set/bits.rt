@@ -1,14 +1,9 @@
-ghost use Rattle.std.specs.Prelude.{◌≡◌, ℕ, ◌*◌, ◌/◌, ◌%◌, ◌<◌, ◌≤◌, false, ◌&&◌, ◌||◌, length, ◌==◌};
+ghost use Rattle.std.specs.Prelude.{◌≡◌, ℕ, ◌+◌, ◌*◌, ◌/◌, ◌<◌, true, false, ◌&&◌, ◌||◌, length, ◌==◌, MatchOption};
 ghost use Rattle.sheets.specs.Bitmaps.{bit_at, within, pair_bit};
 
 use super::PairSet;
 use answers::held::Held;
-
-fn is_within(n1: usize, n2: usize, x: usize, y: usize) -> bool
-    ensures { result ≡ within n1 n2 x y }
-{
-    x < n1 && y < n2
-}
+use systems::system::System;
 
 fn is_set(words: &[u64], i: usize) -> bool
     requires { i / 64 < length words.now }
@@ -25,16 +20,26 @@ fn set_bit(words: &mut [u64], i: usize)
 }
 
 impl PairSet {
-    // No pair yet, of n1 by n2 states.
-    pub(crate) fn new(n1: usize, n2: usize) -> PairSet
-        requires { (n1 ≤ 1024) × (n2 ≤ 1024) }
-        ensures sizes { (result.n1 ≡ n1) × (result.n2 ≡ n2) }
+    // No pair yet, of states of the two systems.
+    pub(crate) fn new<S: System, T: System>(left: &S, right: &T) -> PairSet
+        ensures sizes { (result.n1 ≡ (S.System.meaning left.now).n) × (result.n2 ≡ (T.System.meaning right.now).n) }
         ensures none { (k : ℕ) → bit_at result.words k ≡ false }
     {
         PairSet {
-            n1,
-            n2,
+            n1: left.states(),
+            n2: right.states(),
             words: [0; 16384],
+        }
+    }
+
+    // The bit of the pair, if there are such states.
+    fn place(&self, x: usize, y: usize) -> Option<usize>
+        ensures { MatchOption result (within self.now.n1 self.now.n2 x y ≡ false) (λ i. (within self.now.n1 self.now.n2 x y ≡ true) × (i ≡ x * self.now.n2 + y) × (i / 64 < 16384)) }
+    {
+        if x < self.n1 && y < self.n2 {
+            Some(x * self.n2 + y)
+        } else {
+            None
         }
     }
 
@@ -43,8 +48,8 @@ impl PairSet {
         ensures sizes { (self.new.n1 ≡ self.old.n1) × (self.new.n2 ≡ self.old.n2) }
         ensures pairs { (a b : ℕ) → pair_bit self.old.n1 self.old.n2 self.new.words a b ≡ (pair_bit self.old.n1 self.old.n2 self.old.words a b || (within self.old.n1 self.old.n2 a b && (x == a && y == b))) }
     {
-        if is_within(self.n1, self.n2, x, y) {
-            set_bit(&mut self.words, x * self.n2 + y);
+        if let Some(i) = self.place(x, y) {
+            set_bit(&mut self.words, i);
         }
     }
 }
@@ -53,6 +58,7 @@ impl Held for PairSet {
     ghost holds = { λ p. pair_bit p.n1 p.n2 p.words };
 
     fn has(&self, left: usize, right: usize) -> bool {
-        is_within(self.n1, self.n2, left, right) && is_set(&self.words, left * self.n2 + right)
+        self.place(left, right)
+            .is_some_and(|i| is_set(&self.words, i))
     }
 }

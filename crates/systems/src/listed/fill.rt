@@ -12,18 +12,15 @@ impl Listed {
         ensures { IfOk result (λ x. listed x ≡ L.Lists.meaning source.now) }
     {
         let n = source.states();
-        let mut cuts = Vec::new(heap);
-        let mut list = Vec::new(heap);
-        cuts.push(0)?;
+        let mut states = Vec::new(heap);
         for s in 0..n {
+            let mut list = Vec::new(heap);
             source.append(heap, s, &mut list)?;
-            cuts.push(list.len())?;
+            states.push(list)?;
         }
         Ok(Listed {
-            n,
             w: source.width(),
-            cuts,
-            list,
+            states,
         })
     }
 

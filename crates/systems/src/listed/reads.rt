@@ -10,7 +10,7 @@ impl System for Listed {
     ghost lawful = { listed_lawful };
 
     fn states(&self) -> usize {
-        self.n
+        self.states.len()
     }
 
     fn width(&self) -> usize {
@@ -18,23 +18,10 @@ impl System for Listed {
     }
 
     fn count(&self, s: usize) -> usize {
-        if s < self.n {
-            self.cuts[s + 1] - self.cuts[s]
-        } else {
-            0
-        }
+        self.states.get(s).map_or(0, |list| list.len())
     }
 
     fn nth(&self, s: usize, k: usize) -> Option<(Action, usize)> {
-        if s >= self.n {
-            return None;
-        }
-        let from = self.cuts[s];
-        let to = self.cuts[s + 1];
-        if k < to - from {
-            Some(self.list[from + k])
-        } else {
-            None
-        }
+        self.states.get(s)?.get(k).copied()
     }
 }

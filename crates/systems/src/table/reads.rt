@@ -4,7 +4,7 @@ ghost use Rattle.systems.specs.Rows.{triples};
 ghost use Rattle.systems.specs.Listings.{listed, listed_lawful};
 
 use super::Table;
-use super::source::Source;
+use super::lists::{fits, longest, sorted};
 use crate::listed::Listed;
 use crate::rows::Row;
 use crate::system::System;
@@ -17,11 +17,19 @@ impl Table {
     pub fn new(heap: Global, n: u32, rows: &[Row]) -> Result<Table, AllocError>
         ensures { IfOk result (λ x. listed x.listed ≡ table_of n (triples rows.now)) }
     {
-        let listed = Listed::of(heap, &Source { n, rows })?;
-        Ok(Table { listed })
+        let states = if fits(n, rows) {
+            sorted(heap, n, rows)?
+        } else {
+            Vec::new(heap)
+        };
+        let w = longest(&states);
+        Ok(Table {
+            listed: Listed { w, states },
+        })
     }
 }
 
+// Each question is passed on to what is worked out, so that a table has a name and a contract of its own.
 impl System for Table {
     ghost meaning = { λ x. listed x.listed };
 

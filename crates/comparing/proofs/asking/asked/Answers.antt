@@ -1,9 +1,13 @@
-use Rattle.std.proofs.Common.{◌∙◌}
-use Rattle.std.proofs.lemmas.Result.{IfOk-weaker}
+use Rattle.std.proofs.Common.{vec_items, rules}
+use Rattle.designs.specs.Checks.{Passed}
 use Rattle.comparing.proofs.Verdicts.{answered_by}
 use Rattle.comparing.proofs.asking.asked.Goals as goal
 
-pub returns-in_default-check_nodes : goal.returns-in_default-check_nodes
-returns-in_default-check_nodes c =
-    let e = c.in-Ok.ensures in
-    IfOk-weaker c.compare_nodes.result _ _ (λ a h. answered_by c.args.bytes.now c.as_slice-first.result.now c.as_slice-second.result.now a e.0 (c.as_slice-first.ensures.value ∙ e.1) (c.as_slice-second.ensures.value ∙ e.2) c.in_default.ensures c.in_default-check_nodes.ensures h) c.compare_nodes.ensures
+pub returns : goal.returns
+returns c =
+    let xs = vec_items c.in_ok-pair.pair.first in
+    let ys = vec_items c.in_ok-pair.pair.second in
+    let e = c.in_ok-pair.ensures in
+    let first : Passed xs = search rules in
+    let second : Passed ys = search rules in
+    answered_by c.args.bytes.now xs ys c.in_ok-compare_nodes.field-0 e.0 e.1 e.2 first second c.in_ok-compare_nodes.ensures

@@ -1,33 +1,18 @@
-use Rattle.std.proofs.Common.{sym, arith}
-use Rattle.theory.proofs.Scans.{scan_yes, scan_no, scan_hit, scan_all}
+use Rattle.std.proofs.Common.{rules}
+use Rattle.std.proofs.lemmas.Iterator.Consumers.{nth_from_yields_List, YieldsList-from_filter, YieldsList-from_first, YieldsList-at}
 use Rattle.actions.specs.Transitions.{move_of}
-use Rattle.filters.specs.Kept.{by_code}
+use Rattle.actions.proofs.Kths.{kth_from_get}
+use Rattle.systems.specs.Ahead.{ahead}
+use Rattle.filters.specs.Kept.{by_code, kept}
 use Rattle.filters.proofs.kept.nth_kept.Goals as goal
-use Rattle.filters.proofs.kept.nth_kept.Goals.{in-Some+then-keeps+else-left-eq0, in-Some+else-keeps, in_default}
-
-pub returns-then-left-eq0 : goal.returns-then-left-eq0
-returns-then-left-eq0 g c =
-    let p = by_code (g.P.Keeps.passes c.args.test.now) in
-    let ms = (g.S.System.meaning c.args.system.now).moves c.args.s in
-    let e = c.in-Some.ensures in
-    scan_hit p ms c.loop-i.i (0, 0) (move_of c.in-Some.m) e.0 e.1 c.args.k (sym c.if-keeps.ensures) (omega (arith, c.loop-i.invariant))
-
-pub loop-i-preserved : goal.loop-i-preserved
-loop-i-preserved g c =
-    let p = by_code (g.P.Keeps.passes c.args.test.now) in
-    let ms = (g.S.System.meaning c.args.system.now).moves c.args.s in
-    elim c.match-nth.branch [
-      | in-Some+then-keeps+else-left-eq0 w ↦
-          let e = w.in-Some.ensures in
-          omega (arith, w.left-is, scan_yes p ms c.loop-i.i (0, 0) (move_of w.in-Some.m) e.0 e.1 (sym w.if-keeps.ensures))
-      | in-Some+else-keeps w ↦
-          let e = w.in-Some.ensures in
-          omega (arith, w.left-is, scan_no p ms c.loop-i.i (0, 0) (move_of w.in-Some.m) e.0 e.1 (sym w.if-keeps.ensures))
-      | in_default w ↦ omega (arith, w.in_default.ensures)
-    ]
 
 pub returns : goal.returns
 returns g c =
-    let p = by_code (g.P.Keeps.passes c.args.test.now) in
     let ms = (g.S.System.meaning c.args.system.now).moves c.args.s in
-    omega (arith, scan_all p ms c.loop-i.i (omega arith))
+    let p = g.P.Keeps.passes c.args.test.now in
+    kth_from_get (kept p ms) c.args.k c.nth.result
+    (nth_from_yields_List {s = c.filter.result} _ c.nth.new.self _ c.nth.ensures.ran
+    (YieldsList-from_filter _ (by_code p)
+    (YieldsList-at c.filter.ensures.source
+    (YieldsList-from_first move_of (λ x. ahead (g.S.System.meaning x.system.now) x.s x.k) ms c.transitions_of.ensures))
+    c.filter.ensures.closure (λ x b q k. search rules)))

@@ -1,19 +1,16 @@
-use Rattle.std.proofs.Common.{ℕ, List, [], ◌∷◌, ◌++◌, map, vec_items, ap, ◌∙◌}
-use Rattle.theory.specs.Systems.{Move}
+use Rattle.std.proofs.Common.{sym, ◌∙◌, rules}
+use Rattle.std.proofs.lemmas.Result.{IfOk-weaker}
+use Rattle.std.proofs.lemmas.Simd.{map-map}
+use Rattle.std.proofs.lemmas.Iterator.{YieldsList-from_slice, YieldsList-from_map_by}
+use Rattle.std.proofs.lemmas.Iterator.Consumers.{YieldsList-at, map_from_collect}
 use Rattle.theory.specs.Operators.{recoded}
-use Rattle.actions.specs.Transitions.{moves_of}
-use Rattle.move_lists.specs.Changes.{changed}
-use Rattle.move_lists.proofs.Grows.{grow, grown, pushed, mapped_more}
+use Rattle.actions.specs.Transitions.{move_of}
 use Rattle.move_lists.proofs.recoding.changed_by.Goals as goal
 
-pub loop-m-preserved : goal.loop-m-preserved
-loop-m-preserved c =
-    let f = recoded (changed c.args.change) in
-    let x = c.m-item.result in
-    let with_code : ℕ → List Move = λ a. moves_of (vec_items c.loop-m.out) ++ ((a, x.1) ∷ []) in
-    grow (λ xs. map f (moves_of xs)) c.args.ms.now c.loop-m.m-index [] _ c.loop-m.invariant _ _
-    (mapped_more c.args.ms.now c.loop-m.m-index c.loop-m-test.true x c.m-item.is f)
-    (pushed _ _ _ c.in_ok-push.ensures.items ∙ ap with_code c.of.ensures)
-
 pub returns : goal.returns
-returns c = grown (λ xs. map (recoded (changed c.args.change)) (moves_of xs)) c.args.ms.now c.loop-m.m-index [] _ c.loop-m.invariant c.loop-m-test.false
+returns g c =
+    let ms = c.args.ms.now in
+    let f = recoded (g.R.Recodes.code c.args.by.now) in
+    IfOk-weaker c.collect.result _ _ (λ v e. e ∙ sym (map-map f move_of ms))
+    (map_from_collect _ c.collect.ensures.ran
+    (YieldsList-from_map_by _ move_of (λ m. f (move_of m)) (YieldsList-at c.map.ensures.source (YieldsList-from_slice ms cc)) c.map.ensures.closure (λ m r q k. search rules)))

@@ -1,40 +1,20 @@
-use Rattle.std.proofs.Common.{Some, None}
 use Rattle.theory.specs.Layers.{shown}
-use Rattle.certificates.specs.DifferentSheets.{different_fault, AcceptedDifferent, RefusedDifferent}
+use Rattle.theory.proofs.Laws.{shown_lawful}
 use Rattle.certificates.proofs.DifferentTold.{different_accepted, different_refused}
 use Rattle.certificates.proofs.Cells.{different_sheets}
-use Rattle.theory.proofs.Laws.{shown_lawful}
 use Rattle.sheets.proofs.Rows.{answer_accepted, answer_refused}
 use Rattle.sheets.proofs.different.check_different.Goals as goal
 
-pub returns-in-Some : goal.returns-in-Some
-returns-in-Some g c =
-    let a = shown g.Y.Layer.rule (g.S.System.meaning c.args.left.now) in
-    let b = shown g.Y.Layer.rule (g.T.System.meaning c.args.right.now) in
+pub returns : goal.returns
+returns g c =
+    let rule = g.Y.Layer.rule in
+    let x = g.S.System.meaning c.args.left.now in
+    let y = g.T.System.meaning c.args.right.now in
     let rows = c.args.rows.now in
     let s = c.args.s in
     let t = c.args.t in
-    let e = c.in-Some.ensures in
-    let x = g.S.System.meaning c.args.left.now in
-    let y = g.T.System.meaning c.args.right.now in
     record {
-      accepted = answer_accepted (Some c.in-Some.fault) (different_fault a b rows s t) e (AcceptedDifferent a b rows s t) (RefusedDifferent a b rows s t) (different_accepted a b rows s t) (different_refused a b rows s t);
-      refused = answer_refused (Some c.in-Some.fault) (different_fault a b rows s t) e (AcceptedDifferent a b rows s t) (RefusedDifferent a b rows s t) (different_accepted a b rows s t) (different_refused a b rows s t);
-      decides = different_sheets a b (shown_lawful g.Y.Layer.rule x (g.S.System.lawful c.args.left.now)) (shown_lawful g.Y.Layer.rule y (g.T.System.lawful c.args.right.now)) s t;
-    }
-
-pub returns-in-None : goal.returns-in-None
-returns-in-None g c =
-    let a = shown g.Y.Layer.rule (g.S.System.meaning c.args.left.now) in
-    let b = shown g.Y.Layer.rule (g.T.System.meaning c.args.right.now) in
-    let rows = c.args.rows.now in
-    let s = c.args.s in
-    let t = c.args.t in
-    let e = c.in-None.ensures in
-    let x = g.S.System.meaning c.args.left.now in
-    let y = g.T.System.meaning c.args.right.now in
-    record {
-      accepted = answer_accepted None (different_fault a b rows s t) e (AcceptedDifferent a b rows s t) (RefusedDifferent a b rows s t) (different_accepted a b rows s t) (different_refused a b rows s t);
-      refused = answer_refused None (different_fault a b rows s t) e (AcceptedDifferent a b rows s t) (RefusedDifferent a b rows s t) (different_accepted a b rows s t) (different_refused a b rows s t);
-      decides = different_sheets a b (shown_lawful g.Y.Layer.rule x (g.S.System.lawful c.args.left.now)) (shown_lawful g.Y.Layer.rule y (g.T.System.lawful c.args.right.now)) s t;
+      accepted = answer_accepted _ _ c.check_different_sheet.ensures _ (different_accepted (shown rule x) (shown rule y) rows s t);
+      refused = answer_refused _ _ c.check_different_sheet.ensures _ (different_refused (shown rule x) (shown rule y) rows s t);
+      decides = different_sheets (shown rule x) (shown rule y) (shown_lawful rule x (g.S.System.lawful c.args.left.now)) (shown_lawful rule y (g.T.System.lawful c.args.right.now)) s t;
     }

@@ -1,43 +1,24 @@
-use Rattle.std.proofs.Common.{◌≡◌, length, vec_items, sym, ◌∙◌, subst, arith}
-use Rattle.std.specs.List.{AllByRecursion}
+use Rattle.std.proofs.Common.{length, map, vec_items, arith}
 use Rattle.std.proofs.lemmas.List.{length-map}
-use Rattle.theory.specs.Systems.{Sound}
-use Rattle.theory.specs.Stores.{Narrow}
-use Rattle.theory.proofs.Stores.{stored_is}
-use Rattle.actions.specs.Transitions.{move_of, moves_of}
-use Rattle.actions.proofs.Transitions.{inside_sound}
-use Rattle.systems.proofs.Listings.{filled_more, filled_to}
+use Rattle.systems.proofs.Listings.{Holds, holds_all, few, narrow, short, inside, empty, same}
+use Rattle.systems.proofs.listed.Listed.of.Given as given
 use Rattle.systems.proofs.listed.Listed.of.Goals as goal
+use Rattle.systems.proofs.listed.Listed.of.Goals.{After-width}
 
-pub loop-s-preserved : goal.loop-s-preserved
-loop-s-preserved g c =
+held : (g : given.Over) (c : goal.After-width g) → Holds (g.L.Lists.meaning c.args.source.now) (length (vec_items c.loop-s.states)) c.width.result (map vec_items (vec_items c.loop-s.states))
+held g c =
     let source = c.args.source.now in
-    let list = c.append.new.out in
-    let n : c.len.result ≡ length (moves_of (vec_items list)) = omega (arith, c.len.ensures, list.ok.0, length-map (vec_items list) move_of) in
-    filled_more (g.L.Lists.meaning source) (g.L.Lists.lawful source) (vec_items c.loop-s.cuts) (vec_items c.push-in-loop-s.new.self) (moves_of (vec_items c.loop-s.list)) (moves_of (vec_items list)) c.loop-s.s c.len.result c.loop-s.invariant
-    c.in_ok-append.ensures
-    n
-    c.in_ok-push-2.ensures.items
+    let lists = vec_items c.loop-s.states in
+    holds_all (g.L.Lists.meaning source) (g.L.Lists.lawful source) (length lists) c.width.result (map vec_items lists) (length-map lists vec_items)
+    (omega (arith, c.states-n.ensures, c.loop-s.invariant.0))
+    c.width.ensures
+    (λ j l. c.loop-s.invariant.1 j (omega (arith, c.loop-s.invariant.0)))
 
 pub invariant_of-result : goal.invariant_of-result
 invariant_of-result g c =
-    let source = c.args.source.now in
-    let M = g.L.Lists.meaning source in
-    let law = g.L.Lists.lawful source in
-    let h = filled_to M (vec_items c.loop-s.cuts) (moves_of (vec_items c.loop-s.list)) c.loop-s.s c.states-n.result c.loop-s-test.false c.loop-s.auto.s-end c.loop-s.invariant in
-    let sound : AllByRecursion (Sound c.states-n.result) (moves_of (vec_items c.loop-s.list)) = subst (λ n. AllByRecursion (Sound n) (moves_of (vec_items c.loop-s.list))) (sym c.states-n.ensures) h.sound in
-    record {
-      few = omega (arith, c.states-n.ensures, law.few);
-      narrow = omega (arith, c.width.ensures, law.narrow);
-      cut = h.cut;
-      short = subst (λ w. Narrow (vec_items c.loop-s.cuts) w c.states-n.result) (sym c.width.ensures) h.narrow;
-      inside = inside_sound c.states-n.result (vec_items c.loop-s.list) sound;
-      empty = λ e. c.width.ensures ∙ law.empty (sym c.states-n.ensures ∙ e);
-    }
+    let law = g.L.Lists.lawful c.args.source.now in
+    let h = held g c in
+    record { few = few law h; narrow = narrow law h; short = short law h; inside = inside law h; empty = empty law h }
 
 pub returns : goal.returns
-returns g c =
-    let source = c.args.source.now in
-    let M = g.L.Lists.meaning source in
-    let h = filled_to M (vec_items c.loop-s.cuts) (moves_of (vec_items c.loop-s.list)) c.loop-s.s c.states-n.result c.loop-s-test.false c.loop-s.auto.s-end c.loop-s.invariant in
-    stored_is M (g.L.Lists.lawful source) c.states-n.result c.width.result (vec_items c.loop-s.cuts) (moves_of (vec_items c.loop-s.list)) c.states-n.ensures c.width.ensures h.pieces
+returns g c = same (held g (goal.at.returns g c).After-width)

@@ -1,20 +1,13 @@
-use Rattle.std.proofs.Common.{vec_items, ap, ◌∙◌, arith}
-use Rattle.actions.specs.Transitions.{moves_of}
-use Rattle.systems.proofs.Listings.{appended_more, appended_all}
+use Rattle.std.proofs.Common.{◌++◌, vec_items, ap, ◌∙◌}
+use Rattle.std.proofs.lemmas.List.{map-append}
+use Rattle.std.proofs.lemmas.Iterator.Adapters.{fact_from_extend}
+use Rattle.std.proofs.lemmas.Iterator.Consumers.{YieldsList-from_first, YieldsList-at}
+use Rattle.actions.specs.Transitions.{move_of, moves_of}
+use Rattle.systems.specs.Ahead.{ahead}
+use Rattle.systems.specs.declared.transitions.Transitions.{Transitions}
 use Rattle.systems.proofs.lists.AskedLists.append.Goals as goal
-use Rattle.systems.proofs.lists.AskedLists.append.Goals.{in-Some+in_ok-push, in_default}
-
-pub loop-k-preserved : goal.loop-k-preserved
-loop-k-preserved g c =
-    let ts = (g.S.System.meaning c.args.self.now.system.now).moves c.args.s in
-    elim c.match-nth.branch [
-      | in-Some+in_ok-push w ↦
-          let e = w.in-Some.ensures in
-          appended_more ts (moves_of (vec_items c.args.out.now)) (vec_items c.loop-k.out) (vec_items c.match-nth.out) c.loop-k.k w.in-Some.m c.loop-k.invariant e.0 e.1 (ap vec_items w.out-is ∙ w.in_ok-push.ensures.items)
-      | in_default w ↦ let z : ⊥ = omega (arith, w.in_default.ensures, c.count-k-end.ensures) in elim z [ ]
-    ]
 
 pub returns : goal.returns
 returns g c =
-    let ts = (g.S.System.meaning c.args.self.now.system.now).moves c.args.s in
-    appended_all ts (moves_of (vec_items c.args.out.now)) (moves_of (vec_items c.loop-k.out)) c.loop-k.k c.loop-k.invariant (omega (arith, c.count-k-end.ensures))
+    let ms = (g.S.System.meaning c.args.self.now.system.now).moves c.args.s in
+    fact_from_extend move_of c.extend.result c.extend.ensures.ran (λ it b. YieldsList-at b (YieldsList-from_first move_of (λ (x : Transitions g.row.S.Denot). ahead (g.S.System.meaning x.system.now) x.s x.k) ms c.transitions_of.ensures)) (λ xs e h. ap moves_of h.0 ∙ map-append move_of (vec_items c.args.out.now) xs ∙ ap (λ ks. moves_of (vec_items c.args.out.now) ++ ks) e)

@@ -1,8 +1,0 @@
--- What the strike test is about: a state under a layer, and the cells seen from one side.
-use Rattle.std.specs.Prelude.{◌≡◌, ℕ, ◌<◌, ◌≤◌, Bool, false, List, length, slice_index_or}
-use Rattle.theory.specs.Systems.{Lts}
-use Rattle.theory.specs.Layers.{Layering}
-
--- the calm bits of all states, read off once
-abbrev pub Calms : Layering → Lts → List Bool → Type 0
-Calms y M bits = (M.n ≤ length bits) × ((s : ℕ) → s < M.n → slice_index_or bits s false ≡ y.calm (M.moves s))

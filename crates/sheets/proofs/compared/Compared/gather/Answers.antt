@@ -1,0 +1,22 @@
+use Rattle.std.proofs.Common.{take, ◌∙◌}
+use Rattle.std.proofs.lemmas.List.{take_more, take_all}
+use Rattle.certificates.specs.EqualSheets.{row_at}
+use Rattle.sheets.proofs.PairSets.{gathered_more, gathered_none, gathered_at}
+use Rattle.sheets.proofs.compared.Compared.gather.Goals as goal
+
+pub loop-row-init : goal.loop-row-init
+loop-row-init g c = (c.new-pairs.ensures.sizes.0, c.new-pairs.ensures.sizes.1, gathered_none _ _ c.new-pairs.result.words c.new-pairs.ensures.none)
+
+pub loop-row-preserved : goal.loop-row-preserved
+loop-row-preserved g c =
+    let p = c.loop-row.pairs in
+    let e = c.loop-row.invariant in
+    let rows = c.args.rows.now in
+    let i = c.loop-row.row-index in
+    (c.insert.ensures.sizes.0 ∙ e.0, c.insert.ensures.sizes.1 ∙ e.1, gathered_more _ _ p.n1 p.n2 p.words c.insert.new.self.words (take i rows) _ (row_at rows i) e.0 e.1 (take_more rows i _ c.loop-row-test.true) e.2 c.insert.ensures.pairs)
+
+pub returns : goal.returns
+returns g c =
+    let p = c.loop-row.pairs in
+    let e = c.loop-row.invariant in
+    gathered_at _ _ p.n1 p.n2 p.words _ c.args.rows.now e.0 e.1 (take_all c.loop-row.row-index c.args.rows.now c.loop-row-test.false) e.2
