@@ -15,7 +15,7 @@ pub(crate) struct Place {
 }
 
 impl Place {
-    pub fn after(shift: usize) -> Place
+    pub(crate) fn after(shift: usize) -> Place
         requires { shift ≤ 1048576 }
         ensures { (result.factor ≡ 1) × (result.shift ≡ shift) }
     {
@@ -23,7 +23,7 @@ impl Place {
     }
 
     // The k-th transition of a state of the part, with its target as a state of the whole.
-    pub fn nth<S: System>(self, part: &S, s: usize, k: usize) -> Option<(Action, usize)>
+    pub(crate) fn nth<S: System>(self, part: &S, s: usize, k: usize) -> Option<(Action, usize)>
         ensures { Kth (map (placed self.factor self.shift) ((S.System.meaning part.now).moves s)) k result }
     {
         let m = part.nth(s, k)?;
