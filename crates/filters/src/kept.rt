@@ -18,7 +18,9 @@ pub trait Keeps {
 pub fn count_kept<S: System, P: Keeps>(system: &S, s: usize, test: &P) -> usize
     ensures { result ≡ length (kept (P.Keeps.passes test.now) ((S.System.meaning system.now).moves s)) }
 {
+    // Counted, since a transition past the last may cost more to ask for than their number.
     transitions_of(system, s)
+        .take(system.count(s))
         .filter(|m| test.keeps(m.0))
         .count()
 }
