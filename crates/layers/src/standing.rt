@@ -20,7 +20,10 @@ impl Layer for Standing {
     ghost rule = { standing_layer };
 
     fn is_calm<S: System>(system: &S, s: usize) -> bool {
-        transitions_of(system, s).all(|m| m.0 != Action::inner(true))
+        // Counted, since a transition past the last may cost more to ask for than their number.
+        transitions_of(system, s)
+            .take(system.count(s))
+            .all(|m| m.0 != Action::inner(true))
     }
 
     fn keeps(calm: bool, a: Action) -> bool {
