@@ -21,7 +21,8 @@ pub fn nth_recoded<S: System, R: Recodes>(
     Some((by.recoded(m.0), m.1))
 }
 
-// The same where the state is patient; an impatient state keeps its actions.
+// The same where the state is patient; an impatient state keeps its actions. Patience is looked for only where there is a
+// transition, so that in a nest a question past the last one goes down once.
 pub fn nth_recoded_in_patience<S: System, R: Recodes>(
     below: &S,
     s: usize,
@@ -30,9 +31,10 @@ pub fn nth_recoded_in_patience<S: System, R: Recodes>(
 ) -> Option<(Action, usize)>
     ensures { Kth (recoded_moves (R.Recodes.code by.now) ((S.System.meaning below.now).moves s)) k result }
 {
+    let m = below.nth(s, k)?;
     if Standing::is_calm(below, s) {
-        nth_recoded(below, s, k, by)
+        Some((by.recoded(m.0), m.1))
     } else {
-        below.nth(s, k)
+        Some(m)
     }
 }
