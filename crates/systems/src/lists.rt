@@ -1,4 +1,4 @@
-ghost use Rattle.std.specs.Prelude.{◌≡◌, ◌++◌, OnOk};
+ghost use Rattle.std.specs.Prelude.{◌≡◌, IfOk};
 ghost use Rattle.theory.specs.Systems.{Lts, Lawful};
 ghost use Rattle.actions.specs.Transitions.{moves_of};
 
@@ -19,13 +19,8 @@ pub trait Lists {
     fn width(&self) -> usize
         ensures { result ≡ (meaning self.now).w };
 
-    fn append(
-        &self,
-        heap: Global,
-        s: usize,
-        out: &mut Vec<(Action, usize)>,
-    ) -> Result<(), AllocError>
-        ensures { OnOk result (moves_of out.new.items ≡ moves_of out.old.items ++ (meaning self.now).moves s) };
+    fn list(&self, heap: Global, s: usize) -> Result<Vec<(Action, usize)>, AllocError>
+        ensures { IfOk result (λ v. moves_of v.items ≡ (meaning self.now).moves s) };
 }
 
 // Any system, asked for one transition after another.
@@ -55,12 +50,11 @@ impl<'a, S: System> Lists for Asked<'a, S> {
         self.system.width()
     }
 
-    fn append(
-        &self,
-        _heap: Global,
-        s: usize,
-        out: &mut Vec<(Action, usize)>,
-    ) -> Result<(), AllocError> {
-        out.extend(transitions_of(self.system, s))
+    // Room for all is made at once, and none is asked for past the last.
+    fn list(&self, heap: Global, s: usize) -> Result<Vec<(Action, usize)>, AllocError> {
+        let count = self.system.count(s);
+        let mut list = Vec::with_capacity(heap, count)?;
+        list.extend(transitions_of(self.system, s).take(count))?;
+        Ok(list)
     }
 }

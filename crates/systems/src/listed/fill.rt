@@ -12,11 +12,9 @@ impl Listed {
         ensures { IfOk result (λ x. listed x ≡ L.Lists.meaning source.now) }
     {
         let n = source.states();
-        let mut states = Vec::new(heap);
+        let mut states = Vec::with_capacity(heap, n)?;
         for s in 0..n {
-            let mut list = Vec::new(heap);
-            source.append(heap, s, &mut list)?;
-            states.push(list)?;
+            states.push(source.list(heap, s)?)?;
         }
         Ok(Listed {
             w: source.width(),
