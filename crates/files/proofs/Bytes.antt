@@ -71,7 +71,10 @@ chunk_nodes bytes a n =
     ∙ ap node (chunk_at n _ k bytes h ∙ cut (drop a bytes) (23 * n) (23 * k) 23 (omega arith) ∙ shifted bytes a (23 * k) 23)
     ∙ node_in bytes (a + 23 * k))
 
-pub counted_nodes : (bytes rest nodes : List ℕ) (n : ℕ) → n ≡ field bytes 0 2 → rest ≡ drop 2 bytes → 23 * n ≤ length rest → nodes ≡ take (23 * n) rest → map (λ x. node_at x 0) (first_chunks 23 (length nodes / 23) nodes) ≡ nodes_at bytes 2 (field bytes 0 2)
-counted_nodes bytes rest nodes n hn hr h hc =
-    let many : length nodes / 23 ≡ n = omega (arith, ap length hc, length-take-le (23 * n) rest h) in
-    rw (many, hc, hr) (chunk_nodes bytes 2 n) ∙ ap (nodes_at bytes 2) hn
+-- what is cut off by the size of the nodes that are counted
+pub counted_nodes : (bytes rest nodes after : List ℕ) (size : ℕ) → rest ≡ drop 2 bytes → size ≤ length rest → nodes ≡ take size rest → after ≡ drop size rest → size ≡ 23 * field bytes 0 2 → (map (λ x. node_at x 0) (first_chunks 23 (length nodes / 23) nodes) ≡ nodes_at bytes 2 (field bytes 0 2)) × (after ≡ drop (2 + 23 * field bytes 0 2) bytes)
+counted_nodes bytes rest nodes after size hr h hc ha hs =
+    let many : length nodes / 23 ≡ field bytes 0 2 = omega (arith, ap length hc, length-take-le size rest h, hs) in (
+      rw (many, hc, hs, hr) (chunk_nodes bytes 2 (field bytes 0 2)),
+      ha ∙ rw (hr, hs) (drop-drop (23 * field bytes 0 2) 2 bytes),
+    )
