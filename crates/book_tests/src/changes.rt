@@ -3,7 +3,6 @@ use book::book::{Book, Closed, replay};
 use book::fault::BookFault;
 use book::request::Request;
 use certificates::fault::SheetFault;
-use certificates::side::Side;
 use std::test::Fail;
 
 #[test]
@@ -34,7 +33,7 @@ fn a_change_that_is_not_proved_is_dropped(rt: HostRuntime) -> Result<(), Fail> {
     let closed = book.close(slip);
     let unanswered = SheetFault::Unanswered {
         row: 1,
-        side: Side::Left,
+        side: 0,
         k: 0,
     };
     assert_eq!(rt; answer, Err(BookFault::Sheet(unanswered)));

@@ -11,8 +11,6 @@ use Rattle.certificates.specs.declared.rows.DifferentRow.{DifferentRow}
 use Rattle.certificates.specs.declared.fault.SheetFault.{SheetFault}
 use Rattle.certificates.specs.declared.fault.SheetFault.TheVariants.{NoSuchState, NoSuchMove, Unanswered}
 use Rattle.certificates.specs.EqualSheets.{Listed, Exists}
-use Rattle.certificates.specs.declared.side.Side.{Side}
-use Rattle.certificates.specs.declared.side.Side.TheVariants.{Left, Right}
 use Rattle.certificates.specs.DifferentSheets.{different_row, Earlier, move_at, Cornered, Escapes, PassesDifferent, by_left, by_right, Last, AcceptedDifferent, FailsDifferent, no_state, no_side, no_left, no_right, left_escapes, right_escapes, RefusedDifferent, pair_of, earlier, named_fault, side_fault, different_row_fault, last_is, different_fault}
 use Rattle.std.proofs.lemmas.Option.{none-some, same_Some}
 use Rattle.certificates.proofs.Checks.{cond_none, cond_some, cond_yes, cond_no, checked_accepted, checked_refused}
@@ -42,7 +40,7 @@ module _ (ok : ℕ → ℕ → Bool) (R : ℕ → ℕ → Type 0) (is : (x y : �
   outside : (x y : ℕ) → (not (ok x y) ≡ true) ↔ (R x y → ⊥)
   outside x y = ((λ e r. both_ways (ok x y) (not-true (ok x y) e) ((is x y).1 r)), (λ n. not_from_false (ok x y) (off (ok x y) (λ e. n ((is x y).0 e)))))
 
-  module _ (M N : Lts) (i : ℕ) (side : Side) (s t k : ℕ) where
+  module _ (M N : Lts) (i side s t k : ℕ) where
     escapes_told : (answered (λ x y. not (ok x y)) (N.moves t) (move_at M s k) ≡ true) ↔ Escapes M N R s t k
     escapes_told = answered_told (λ x y. not (ok x y)) (λ x y. R x y → ⊥) outside N t (move_at M s k)
 
@@ -108,26 +106,26 @@ module _ (M N : Lts) (rows : List DifferentRow) (i : ℕ) (inside : i < length r
   here = ltb (different_row rows i).left M.n && ltb (different_row rows i).right N.n
 
   lefts : Option SheetFault
-  lefts = named_fault (earlier rows i) (M.moves (different_row rows i).left) (N.moves (different_row rows i).right) i Left (different_row rows i).k
+  lefts = named_fault (earlier rows i) (M.moves (different_row rows i).left) (N.moves (different_row rows i).right) i 0 (different_row rows i).k
 
   rights : Option SheetFault
-  rights = named_fault (λ y x. earlier rows i x y) (N.moves (different_row rows i).right) (M.moves (different_row rows i).left) i Right (different_row rows i).k
+  rights = named_fault (λ y x. earlier rows i x y) (N.moves (different_row rows i).right) (M.moves (different_row rows i).left) i 1 (different_row rows i).k
 
   left_none : (lefts ≡ None) ↔ Cornered M N (Earlier rows i) (different_row rows i).left (different_row rows i).right (different_row rows i).k
   unfolding lefts
-  left_none = named_none (earlier rows i) (Earlier rows i) (earlier_told rows i inside) M N i Left (different_row rows i).left (different_row rows i).right (different_row rows i).k
+  left_none = named_none (earlier rows i) (Earlier rows i) (earlier_told rows i inside) M N i 0 (different_row rows i).left (different_row rows i).right (different_row rows i).k
 
   right_none : (rights ≡ None) ↔ Cornered N M (λ y x. Earlier rows i x y) (different_row rows i).right (different_row rows i).left (different_row rows i).k
   unfolding rights
-  right_none = named_none (λ y x. earlier rows i x y) (λ y x. Earlier rows i x y) (λ y x. earlier_told rows i inside x y) N M i Right (different_row rows i).right (different_row rows i).left (different_row rows i).k
+  right_none = named_none (λ y x. earlier rows i x y) (λ y x. Earlier rows i x y) (λ y x. earlier_told rows i inside x y) N M i 1 (different_row rows i).right (different_row rows i).left (different_row rows i).k
 
-  left_some : (f : SheetFault) → (lefts ≡ Some f) ↔ (((f ≡ NoSuchMove i) × (length (M.moves (different_row rows i).left) ≤ (different_row rows i).k)) ⊎ ((f ≡ Unanswered i Left (different_row rows i).k) × ((different_row rows i).k < length (M.moves (different_row rows i).left)) × Escapes M N (Earlier rows i) (different_row rows i).left (different_row rows i).right (different_row rows i).k))
+  left_some : (f : SheetFault) → (lefts ≡ Some f) ↔ (((f ≡ NoSuchMove i) × (length (M.moves (different_row rows i).left) ≤ (different_row rows i).k)) ⊎ ((f ≡ Unanswered i 0 (different_row rows i).k) × ((different_row rows i).k < length (M.moves (different_row rows i).left)) × Escapes M N (Earlier rows i) (different_row rows i).left (different_row rows i).right (different_row rows i).k))
   unfolding lefts
-  left_some = named_some (earlier rows i) (Earlier rows i) (earlier_told rows i inside) M N i Left (different_row rows i).left (different_row rows i).right (different_row rows i).k
+  left_some = named_some (earlier rows i) (Earlier rows i) (earlier_told rows i inside) M N i 0 (different_row rows i).left (different_row rows i).right (different_row rows i).k
 
-  right_some : (f : SheetFault) → (rights ≡ Some f) ↔ (((f ≡ NoSuchMove i) × (length (N.moves (different_row rows i).right) ≤ (different_row rows i).k)) ⊎ ((f ≡ Unanswered i Right (different_row rows i).k) × ((different_row rows i).k < length (N.moves (different_row rows i).right)) × Escapes N M (λ y x. Earlier rows i x y) (different_row rows i).right (different_row rows i).left (different_row rows i).k))
+  right_some : (f : SheetFault) → (rights ≡ Some f) ↔ (((f ≡ NoSuchMove i) × (length (N.moves (different_row rows i).right) ≤ (different_row rows i).k)) ⊎ ((f ≡ Unanswered i 1 (different_row rows i).k) × ((different_row rows i).k < length (N.moves (different_row rows i).right)) × Escapes N M (λ y x. Earlier rows i x y) (different_row rows i).right (different_row rows i).left (different_row rows i).k))
   unfolding rights
-  right_some = named_some (λ y x. earlier rows i x y) (λ y x. Earlier rows i x y) (λ y x. earlier_told rows i inside x y) N M i Right (different_row rows i).right (different_row rows i).left (different_row rows i).k
+  right_some = named_some (λ y x. earlier rows i x y) (λ y x. Earlier rows i x y) (λ y x. earlier_told rows i inside x y) N M i 1 (different_row rows i).right (different_row rows i).left (different_row rows i).k
 
   fault : Option SheetFault
   fault = different_row_fault M N (earlier rows i) i (different_row rows i)

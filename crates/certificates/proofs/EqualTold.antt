@@ -9,8 +9,6 @@ use Rattle.refinement.proofs.Telling.{off, some_out, some_in}
 use Rattle.certificates.specs.declared.rows.EqualRow.{EqualRow}
 use Rattle.certificates.specs.declared.fault.SheetFault.{SheetFault}
 use Rattle.certificates.specs.declared.fault.SheetFault.TheVariants.{NoSuchState, Unanswered}
-use Rattle.certificates.specs.declared.side.Side.{Side}
-use Rattle.certificates.specs.declared.side.Side.TheVariants.{Left, Right}
 use Rattle.theory.specs.Faults.{first_fault as first}
 use Rattle.certificates.specs.Faults.{Counted}
 use Rattle.certificates.specs.EqualSheets.{Listed, listed, Answered, FirstUnanswered, Exists, PassesEqual, FailsEqual, no_state, left_open, right_open, row_at, AcceptedEqual, RefusedEqual, move_fault, equal_row_fault, equal_fault}
@@ -47,7 +45,7 @@ module _ (ok : ℕ → ℕ → Bool) (R : ℕ → ℕ → Type 0) (is : (x y : �
       into : Answered N R t m → answered ok (N.moves t) m ≡ true
       into h = some_in (answers ok m) h.1 (and_from (eqb m.0 m.0) (ok m.1 h.0) (eq-eqb m.0 m.0 refl) ((is m.1 h.0).1 h.2))
 
-  module _ (M N : Lts) (i : ℕ) (side : Side) (s t : ℕ) where
+  module _ (M N : Lts) (i side s t : ℕ) where
     pub moves_none : (first (move_fault ok (N.moves t) i side) 0 (M.moves s) ≡ None) ↔ Answers M N R s t
     moves_none = (out, into)
       where
@@ -100,17 +98,17 @@ exists_in M N s t h = and_from (ltb s M.n) (ltb t N.n) (lt-ltb s M.n h.0) (lt-lt
 
 module _ (M N : Lts) (rows : List EqualRow) (i : ℕ) where
   module _ (s t : ℕ) where
-    left_none : (first (move_fault (listed rows) (N.moves t) i Left) 0 (M.moves s) ≡ None) ↔ Answers M N (Listed rows) s t
-    left_none = moves_none (listed rows) (Listed rows) (listed_told rows) M N i Left s t
+    left_none : (first (move_fault (listed rows) (N.moves t) i 0) 0 (M.moves s) ≡ None) ↔ Answers M N (Listed rows) s t
+    left_none = moves_none (listed rows) (Listed rows) (listed_told rows) M N i 0 s t
 
-    right_none : (first (move_fault (λ y x. listed rows x y) (M.moves s) i Right) 0 (N.moves t) ≡ None) ↔ Answers N M (λ y x. Listed rows x y) t s
-    right_none = moves_none (λ y x. listed rows x y) (λ y x. Listed rows x y) (λ y x. listed_told rows x y) N M i Right t s
+    right_none : (first (move_fault (λ y x. listed rows x y) (M.moves s) i 1) 0 (N.moves t) ≡ None) ↔ Answers N M (λ y x. Listed rows x y) t s
+    right_none = moves_none (λ y x. listed rows x y) (λ y x. Listed rows x y) (λ y x. listed_told rows x y) N M i 1 t s
 
-    left_some : (f : SheetFault) → (first (move_fault (listed rows) (N.moves t) i Left) 0 (M.moves s) ≡ Some f) ↔ ((k : ℕ) × (f ≡ Unanswered i Left k) × FirstUnanswered M N (Listed rows) s t k)
-    left_some f = moves_some (listed rows) (Listed rows) (listed_told rows) M N i Left s t f
+    left_some : (f : SheetFault) → (first (move_fault (listed rows) (N.moves t) i 0) 0 (M.moves s) ≡ Some f) ↔ ((k : ℕ) × (f ≡ Unanswered i 0 k) × FirstUnanswered M N (Listed rows) s t k)
+    left_some f = moves_some (listed rows) (Listed rows) (listed_told rows) M N i 0 s t f
 
-    right_some : (f : SheetFault) → (first (move_fault (λ y x. listed rows x y) (M.moves s) i Right) 0 (N.moves t) ≡ Some f) ↔ ((k : ℕ) × (f ≡ Unanswered i Right k) × FirstUnanswered N M (λ y x. Listed rows x y) t s k)
-    right_some f = moves_some (λ y x. listed rows x y) (λ y x. Listed rows x y) (λ y x. listed_told rows x y) N M i Right t s f
+    right_some : (f : SheetFault) → (first (move_fault (λ y x. listed rows x y) (M.moves s) i 1) 0 (N.moves t) ≡ Some f) ↔ ((k : ℕ) × (f ≡ Unanswered i 1 k) × FirstUnanswered N M (λ y x. Listed rows x y) t s k)
+    right_some f = moves_some (λ y x. listed rows x y) (λ y x. Listed rows x y) (λ y x. listed_told rows x y) N M i 1 t s f
 
   row_passes : (equal_row_fault M N (listed rows) i (row_at rows i) ≡ None) ↔ PassesEqual M N rows i
   row_passes = (out, into)
@@ -118,13 +116,13 @@ module _ (M N : Lts) (rows : List EqualRow) (i : ℕ) where
       out : equal_row_fault M N (listed rows) i (row_at rows i) ≡ None → PassesEqual M N rows i
       out e =
           let a = cond_none (ltb (row_at rows i).left M.n && ltb (row_at rows i).right N.n) _ (NoSuchState i) e in
-          let b = or_none (first (move_fault (listed rows) (N.moves (row_at rows i).right) i Left) 0 (M.moves (row_at rows i).left)) _ a.1 in
+          let b = or_none (first (move_fault (listed rows) (N.moves (row_at rows i).right) i 0) 0 (M.moves (row_at rows i).left)) _ a.1 in
           (exists_out M N (row_at rows i).left (row_at rows i).right a.0, (left_none (row_at rows i).left (row_at rows i).right).0 b.0, (right_none (row_at rows i).left (row_at rows i).right).0 b.1)
 
       into : PassesEqual M N rows i → equal_row_fault M N (listed rows) i (row_at rows i) ≡ None
       into h =
           cond_yes (ltb (row_at rows i).left M.n && ltb (row_at rows i).right N.n) _ (NoSuchState i) (exists_in M N (row_at rows i).left (row_at rows i).right h.0)
-          ∙ or_right (first (move_fault (listed rows) (N.moves (row_at rows i).right) i Left) 0 (M.moves (row_at rows i).left)) _ ((left_none (row_at rows i).left (row_at rows i).right).1 h.1)
+          ∙ or_right (first (move_fault (listed rows) (N.moves (row_at rows i).right) i 0) 0 (M.moves (row_at rows i).left)) _ ((left_none (row_at rows i).left (row_at rows i).right).1 h.1)
           ∙ (right_none (row_at rows i).left (row_at rows i).right).1 h.2
 
   row_fails : (f : SheetFault) → (equal_row_fault M N (listed rows) i (row_at rows i) ≡ Some f) ↔ FailsEqual M N rows i f
@@ -134,7 +132,7 @@ module _ (M N : Lts) (rows : List EqualRow) (i : ℕ) where
       out e = elim (cond_some (ltb (row_at rows i).left M.n && ltb (row_at rows i).right N.n) _ (NoSuchState i) f e) [
         | inl w ↦
             let here = exists_out M N (row_at rows i).left (row_at rows i).right w.0 in
-            elim (or_some (first (move_fault (listed rows) (N.moves (row_at rows i).right) i Left) 0 (M.moves (row_at rows i).left)) _ f w.1) [
+            elim (or_some (first (move_fault (listed rows) (N.moves (row_at rows i).right) i 0) 0 (M.moves (row_at rows i).left)) _ f w.1) [
               | inl h ↦ let r = (left_some (row_at rows i).left (row_at rows i).right f).0 h in left_open r.0 r.1 here r.2
               | inr h ↦ let r = (right_some (row_at rows i).left (row_at rows i).right f).0 h.1 in right_open r.0 r.1 here ((left_none (row_at rows i).left (row_at rows i).right).0 h.0) r.2
             ]
@@ -145,10 +143,10 @@ module _ (M N : Lts) (rows : List EqualRow) (i : ℕ) where
       into (no_state e n) = cond_no (ltb (row_at rows i).left M.n && ltb (row_at rows i).right N.n) _ (NoSuchState i) f (off (ltb (row_at rows i).left M.n && ltb (row_at rows i).right N.n) (λ b. n (exists_out M N (row_at rows i).left (row_at rows i).right b))) e
       into (left_open k e h u) =
           cond_yes (ltb (row_at rows i).left M.n && ltb (row_at rows i).right N.n) _ (NoSuchState i) (exists_in M N (row_at rows i).left (row_at rows i).right h)
-          ∙ or_left (first (move_fault (listed rows) (N.moves (row_at rows i).right) i Left) 0 (M.moves (row_at rows i).left)) _ f ((left_some (row_at rows i).left (row_at rows i).right f).1 (k, e, u))
+          ∙ or_left (first (move_fault (listed rows) (N.moves (row_at rows i).right) i 0) 0 (M.moves (row_at rows i).left)) _ f ((left_some (row_at rows i).left (row_at rows i).right f).1 (k, e, u))
       into (right_open k e h a u) =
           cond_yes (ltb (row_at rows i).left M.n && ltb (row_at rows i).right N.n) _ (NoSuchState i) (exists_in M N (row_at rows i).left (row_at rows i).right h)
-          ∙ or_right (first (move_fault (listed rows) (N.moves (row_at rows i).right) i Left) 0 (M.moves (row_at rows i).left)) _ ((left_none (row_at rows i).left (row_at rows i).right).1 a)
+          ∙ or_right (first (move_fault (listed rows) (N.moves (row_at rows i).right) i 0) 0 (M.moves (row_at rows i).left)) _ ((left_none (row_at rows i).left (row_at rows i).right).1 a)
           ∙ (right_some (row_at rows i).left (row_at rows i).right f).1 (k, e, u)
 
 -- Rows that pass one by one are a bisimulation, and the other way round.

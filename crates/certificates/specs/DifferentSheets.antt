@@ -7,8 +7,6 @@ use Rattle.certificates.specs.declared.rows.EqualRow.{EqualRow}
 use Rattle.certificates.specs.declared.rows.DifferentRow.{DifferentRow}
 use Rattle.certificates.specs.declared.fault.SheetFault.{SheetFault}
 use Rattle.certificates.specs.declared.fault.SheetFault.TheVariants.{NoSuchState, NoSuchMove, Unanswered}
-use Rattle.certificates.specs.declared.side.Side.{Side}
-use Rattle.certificates.specs.declared.side.Side.TheVariants.{Left, Right}
 use Rattle.theory.specs.Faults.{first_fault as first}
 use Rattle.certificates.specs.Faults.{Counted, Refused, sheet_fault}
 use Rattle.certificates.specs.EqualSheets.{Exists, listed}
@@ -65,11 +63,11 @@ pub data FailsDifferent (M N : Lts) (rows : List DifferentRow) (i : ℕ) (f : Sh
       → length (M.moves (different_row rows i).left) ≤ (different_row rows i).k → FailsDifferent M N rows i f
   no_right : f ≡ NoSuchMove i → Exists M N (different_row rows i).left (different_row rows i).right → (different_row rows i).side ≡ 1
       → length (N.moves (different_row rows i).right) ≤ (different_row rows i).k → FailsDifferent M N rows i f
-  left_escapes : f ≡ Unanswered i Left (different_row rows i).k → Exists M N (different_row rows i).left (different_row rows i).right
+  left_escapes : f ≡ Unanswered i 0 (different_row rows i).k → Exists M N (different_row rows i).left (different_row rows i).right
       → (different_row rows i).side ≡ 0 → (different_row rows i).k < length (M.moves (different_row rows i).left)
       → Escapes M N (Earlier rows i) (different_row rows i).left (different_row rows i).right (different_row rows i).k
       → FailsDifferent M N rows i f
-  right_escapes : f ≡ Unanswered i Right (different_row rows i).k → Exists M N (different_row rows i).left (different_row rows i).right
+  right_escapes : f ≡ Unanswered i 1 (different_row rows i).k → Exists M N (different_row rows i).left (different_row rows i).right
       → (different_row rows i).side ≡ 1 → (different_row rows i).k < length (N.moves (different_row rows i).right)
       → Escapes N M (λ y x. Earlier rows i x y) (different_row rows i).right (different_row rows i).left (different_row rows i).k
       → FailsDifferent M N rows i f
@@ -84,15 +82,15 @@ pair_of r = record { left = r.left; right = r.right }
 abbrev pub earlier : List DifferentRow → ℕ → ℕ → ℕ → Bool
 earlier rows i = listed (map pair_of (take i rows))
 
-abbrev pub named_fault : (ℕ → ℕ → Bool) → List Move → List Move → ℕ → Side → ℕ → Option SheetFault
+abbrev pub named_fault : (ℕ → ℕ → Bool) → List Move → List Move → ℕ → ℕ → ℕ → Option SheetFault
 named_fault ok ms ks i side k = cond (nat_lt k (length ms))
     (cond (cornered ok ks (slice_index_or ms k (0, 0))) None (Some (Unanswered i side k)))
     (Some (NoSuchMove i))
 
 abbrev pub side_fault : Lts → Lts → (ℕ → ℕ → Bool) → ℕ → DifferentRow → Option SheetFault
 side_fault M N ok i r = cond (r.side == 0)
-    (named_fault ok (M.moves r.left) (N.moves r.right) i Left r.k)
-    (cond (r.side == 1) (named_fault (λ y x. ok x y) (N.moves r.right) (M.moves r.left) i Right r.k) (Some (NoSuchMove i)))
+    (named_fault ok (M.moves r.left) (N.moves r.right) i 0 r.k)
+    (cond (r.side == 1) (named_fault (λ y x. ok x y) (N.moves r.right) (M.moves r.left) i 1 r.k) (Some (NoSuchMove i)))
 
 abbrev pub different_row_fault : Lts → Lts → (ℕ → ℕ → Bool) → ℕ → DifferentRow → Option SheetFault
 different_row_fault M N ok i r = cond (nat_lt r.left M.n && nat_lt r.right N.n) (side_fault M N ok i r) (Some (NoSuchState i))

@@ -7,8 +7,6 @@ use Rattle.refinement.specs.Cells.{some, answered}
 use Rattle.certificates.specs.declared.rows.EqualRow.{EqualRow}
 use Rattle.certificates.specs.declared.fault.SheetFault.{SheetFault}
 use Rattle.certificates.specs.declared.fault.SheetFault.TheVariants.{NoSuchState, Unanswered}
-use Rattle.certificates.specs.declared.side.Side.{Side}
-use Rattle.certificates.specs.declared.side.Side.TheVariants.{Left, Right}
 use Rattle.theory.specs.Faults.{or_else, first_fault as first}
 use Rattle.certificates.specs.Faults.{Counted, Refused, sheet_fault}
 
@@ -54,9 +52,9 @@ FirstUnanswered M N R s t k = (k < length (M.moves s))
 -- what is wrong with the row i; the left side is asked before the right
 pub data FailsEqual (M N : Lts) (rows : List EqualRow) (i : ℕ) (f : SheetFault) : Type 0 where
   no_state : f ≡ NoSuchState i → (Exists M N (row_at rows i).left (row_at rows i).right → ⊥) → FailsEqual M N rows i f
-  left_open : (k : ℕ) → f ≡ Unanswered i Left k → Exists M N (row_at rows i).left (row_at rows i).right
+  left_open : (k : ℕ) → f ≡ Unanswered i 0 k → Exists M N (row_at rows i).left (row_at rows i).right
       → FirstUnanswered M N (Listed rows) (row_at rows i).left (row_at rows i).right k → FailsEqual M N rows i f
-  right_open : (k : ℕ) → f ≡ Unanswered i Right k → Exists M N (row_at rows i).left (row_at rows i).right
+  right_open : (k : ℕ) → f ≡ Unanswered i 1 k → Exists M N (row_at rows i).left (row_at rows i).right
       → Answers M N (Listed rows) (row_at rows i).left (row_at rows i).right
       → FirstUnanswered N M (λ y x. Listed rows x y) (row_at rows i).right (row_at rows i).left k → FailsEqual M N rows i f
 
@@ -67,11 +65,11 @@ RefusedEqual M N rows s t f = Refused (length rows) (PassesEqual M N rows) (Fail
 abbrev pub listed : List EqualRow → ℕ → ℕ → Bool
 listed rows x y = some (λ r. (r.left == x) && r.right == y) rows
 
-abbrev pub move_fault : (ℕ → ℕ → Bool) → List Move → ℕ → Side → ℕ → Move → Option SheetFault
+abbrev pub move_fault : (ℕ → ℕ → Bool) → List Move → ℕ → ℕ → ℕ → Move → Option SheetFault
 move_fault ok ks i side k m = cond (answered ok ks m) None (Some (Unanswered i side k))
 
 abbrev pub answer_fault : Lts → Lts → (ℕ → ℕ → Bool) → ℕ → ℕ → ℕ → Option SheetFault
-answer_fault M N ok i s t = or_else (first (move_fault ok (N.moves t) i Left) 0 (M.moves s)) (first (move_fault (λ y x. ok x y) (M.moves s) i Right) 0 (N.moves t))
+answer_fault M N ok i s t = or_else (first (move_fault ok (N.moves t) i 0) 0 (M.moves s)) (first (move_fault (λ y x. ok x y) (M.moves s) i 1) 0 (N.moves t))
 
 abbrev pub equal_row_fault : Lts → Lts → (ℕ → ℕ → Bool) → ℕ → EqualRow → Option SheetFault
 equal_row_fault M N ok i r = cond (nat_lt r.left M.n && nat_lt r.right N.n) (answer_fault M N ok i r.left r.right) (Some (NoSuchState i))

@@ -16,7 +16,7 @@ abbrev pub report : SheetFault → Report
 report RowCount = record { number = 14; place = 0; side = 0; k = 0 }
 report (NoSuchState row) = record { number = 15; place = row; side = 0; k = 0 }
 report (NoSuchMove row) = record { number = 16; place = row; side = 0; k = 0 }
-report (Unanswered row side k) = record { number = 17; place = row; side = side_number side; k = k }
+report (Unanswered row side k) = record { number = 17; place = row; side = side; k = k }
 report NotAsked = record { number = 18; place = 0; side = 0; k = 0 }
 
 abbrev pub Counted : ℕ → Type 0

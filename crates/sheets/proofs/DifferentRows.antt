@@ -10,8 +10,6 @@ use Rattle.theory.specs.Systems.{Move, Lts, Lawful, Sound}
 use Rattle.certificates.specs.declared.rows.DifferentRow.{DifferentRow}
 use Rattle.certificates.specs.declared.fault.SheetFault.{SheetFault}
 use Rattle.certificates.specs.declared.fault.SheetFault.TheVariants.{NoSuchState, NoSuchMove, Unanswered}
-use Rattle.certificates.specs.declared.side.Side.{Side}
-use Rattle.certificates.specs.declared.side.Side.TheVariants.{Left, Right}
 use Rattle.certificates.specs.Listings.{cornered}
 use Rattle.certificates.specs.DifferentSheets.{pair_of, earlier, named_fault, different_row_fault}
 use Rattle.sheets.specs.Bitmaps.{pair_bit}
@@ -21,11 +19,11 @@ use Rattle.sheets.proofs.PairSets.{Gathered}
 -- a row that names the right side
 pub row_right : (M N : Lts) (ok : ℕ → ℕ → Bool) (i : ℕ) (r : DifferentRow) (u : Unit {0}) (o : Result (Unit {0}) SheetFault)
     → Ok u ≡ passed (cond (ltb r.left M.n && ltb r.right N.n) None (Some (NoSuchState i))) → r.side ≡ 1
-    → o ≡ passed (named_fault (λ y x. ok x y) (N.moves r.right) (M.moves r.left) i Right r.k)
+    → o ≡ passed (named_fault (λ y x. ok x y) (N.moves r.right) (M.moves r.left) i 1 r.k)
     → o ≡ passed (different_row_fault M N ok i r)
 row_right M N ok i r u o h side e = grind arith
 
-named_same : (n1 n2 : ℕ) (ok ko : ℕ → ℕ → Bool) (i : ℕ) (side : Side) (k : ℕ) (ms ks : List Move) → AllByRecursion (Sound n1) ms → AllByRecursion (Sound n2) ks → ((x y : ℕ) → x < n1 → y < n2 → ok x y ≡ ko x y)
+named_same : (n1 n2 : ℕ) (ok ko : ℕ → ℕ → Bool) (i side k : ℕ) (ms ks : List Move) → AllByRecursion (Sound n1) ms → AllByRecursion (Sound n2) ks → ((x y : ℕ) → x < n1 → y < n2 → ok x y ≡ ko x y)
     → named_fault ok ms ks i side k ≡ named_fault ko ms ks i side k
 named_same n1 n2 ok ko i side k ms ks a b h = go (ltb k (length ms)) refl
   where
@@ -38,11 +36,11 @@ named_same n1 n2 ok ko i side k ms ks a b h = go (ltb k (length ms)) refl
 module _ (M N : Lts) (lM : Lawful M) (lN : Lawful N) (ok ko : ℕ → ℕ → Bool) (h : (x y : ℕ) → x < M.n → y < N.n → ok x y ≡ ko x y) where
   row_same : (i : ℕ) (r : DifferentRow) → different_row_fault M N ok i r ≡ different_row_fault M N ko i r
   row_same i r =
-      let left = named_same M.n N.n ok ko i Left r.k (M.moves r.left) (N.moves r.right) (lM.sound r.left) (lN.sound r.right) h in
-      let right = named_same N.n M.n (λ y x. ok x y) (λ y x. ko x y) i Right r.k (N.moves r.right) (M.moves r.left) (lN.sound r.right) (lM.sound r.left) (λ y x ly lx. h x y lx ly) in
+      let left = named_same M.n N.n ok ko i 0 r.k (M.moves r.left) (N.moves r.right) (lM.sound r.left) (lN.sound r.right) h in
+      let right = named_same N.n M.n (λ y x. ok x y) (λ y x. ko x y) i 1 r.k (N.moves r.right) (M.moves r.left) (lN.sound r.right) (lM.sound r.left) (λ y x ly lx. h x y lx ly) in
       ap (λ v. cond (ltb r.left M.n && ltb r.right N.n) v (Some (NoSuchState i)))
-      (ap (λ v. cond (eqb r.side 0) v (cond (eqb r.side 1) (named_fault (λ y x. ok x y) (N.moves r.right) (M.moves r.left) i Right r.k) (Some (NoSuchMove i)))) left
-      ∙ ap (λ v. cond (eqb r.side 0) (named_fault ko (M.moves r.left) (N.moves r.right) i Left r.k) (cond (eqb r.side 1) v (Some (NoSuchMove i)))) right)
+      (ap (λ v. cond (eqb r.side 0) v (cond (eqb r.side 1) (named_fault (λ y x. ok x y) (N.moves r.right) (M.moves r.left) i 1 r.k) (Some (NoSuchMove i)))) left
+      ∙ ap (λ v. cond (eqb r.side 0) (named_fault ko (M.moves r.left) (N.moves r.right) i 0 r.k) (cond (eqb r.side 1) v (Some (NoSuchMove i)))) right)
 
 -- the bitmap of the pairs of the first i rows serves as well as the rows
 pub gathered_row : (rule : Layering) (M N : Lts) → Lawful M → Lawful N → (m1 m2 : ℕ) → m1 ≡ M.n → m2 ≡ N.n → (words : List ℕ) (rows : List DifferentRow) (i : ℕ) (r : DifferentRow) → Gathered M.n N.n words (map pair_of (take i rows))

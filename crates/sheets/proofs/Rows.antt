@@ -12,8 +12,6 @@ use Rattle.refinement.specs.Cells.{answered}
 use Rattle.certificates.specs.declared.rows.EqualRow.{EqualRow}
 use Rattle.certificates.specs.declared.fault.SheetFault.{SheetFault}
 use Rattle.certificates.specs.declared.fault.SheetFault.TheVariants.{NoSuchState, Unanswered}
-use Rattle.certificates.specs.declared.side.Side.{Side}
-use Rattle.certificates.specs.declared.side.Side.TheVariants.{Left, Right}
 use Rattle.certificates.specs.EqualSheets.{listed, move_fault, equal_row_fault}
 use Rattle.answers.specs.Views.{first_unanswered}
 use Rattle.sheets.specs.Bitmaps.{within}
@@ -29,14 +27,14 @@ module _ {X Y : Type 0} (b : X → Bool) (g : ℕ → Y) where
       go false h = refl
 
 -- the fault that a search of a row makes
-pub fault_numbered : (ok : ℕ → ℕ → Bool) (ks : List Move) (i : ℕ) (side : Side) (ms : List Move) → first (move_fault ok ks i side) 0 ms ≡ option_map (Unanswered i side) (first_unanswered ok ms ks)
+pub fault_numbered : (ok : ℕ → ℕ → Bool) (ks : List Move) (i side : ℕ) (ms : List Move) → first (move_fault ok ks i side) 0 ms ≡ option_map (Unanswered i side) (first_unanswered ok ms ks)
 fault_numbered ok ks i side ms = first_mapped (answered ok ks) (Unanswered i side) 0 ms
 
 -- a row that the left side passes has the fault of the right side
 pub row_right : (M N : Lts) (ok : ℕ → ℕ → Bool) (i : ℕ) (r : EqualRow) (u v : Unit {0}) (o : Result (Unit {0}) SheetFault)
     → Ok u ≡ passed (cond (ltb r.left M.n && ltb r.right N.n) None (Some (NoSuchState i)))
-    → Ok v ≡ passed (first (move_fault ok (N.moves r.right) i Left) 0 (M.moves r.left))
-    → o ≡ passed (first (move_fault (λ y x. ok x y) (M.moves r.left) i Right) 0 (N.moves r.right))
+    → Ok v ≡ passed (first (move_fault ok (N.moves r.right) i 0) 0 (M.moves r.left))
+    → o ≡ passed (first (move_fault (λ y x. ok x y) (M.moves r.left) i 1) 0 (N.moves r.right))
     → o ≡ passed (equal_row_fault M N ok i r)
 row_right M N ok i r u v o h l e = grind arith
 
@@ -47,7 +45,7 @@ answered_same n ok ko m (k ∷ ks) a h =
     ap (λ v. (eqb m.0 k.0 && v) || answered ok ks m) (h k.1 a.0.1)
     ∙ ap (λ v. (eqb m.0 k.0 && ko m.1 k.1) || v) (answered_same n ok ko m ks a.1 h)
 
-moves_same : (n1 n2 : ℕ) (ok ko : ℕ → ℕ → Bool) (i : ℕ) (side : Side) (j : ℕ) (ms ks : List Move) → AllByRecursion (Sound n1) ms → AllByRecursion (Sound n2) ks → ((x y : ℕ) → x < n1 → y < n2 → ok x y ≡ ko x y)
+moves_same : (n1 n2 : ℕ) (ok ko : ℕ → ℕ → Bool) (i side j : ℕ) (ms ks : List Move) → AllByRecursion (Sound n1) ms → AllByRecursion (Sound n2) ks → ((x y : ℕ) → x < n1 → y < n2 → ok x y ≡ ko x y)
     → first (move_fault ok ks i side) j ms ≡ first (move_fault ko ks i side) j ms
 moves_same n1 n2 ok ko i side j [] ks a b h = refl
 moves_same n1 n2 ok ko i side j (m ∷ ms) ks a b h =
@@ -57,8 +55,8 @@ moves_same n1 n2 ok ko i side j (m ∷ ms) ks a b h =
 module _ (M N : Lts) (lM : Lawful M) (lN : Lawful N) (ok ko : ℕ → ℕ → Bool) (h : (x y : ℕ) → x < M.n → y < N.n → ok x y ≡ ko x y) where
   row_same : (i : ℕ) (r : EqualRow) → equal_row_fault M N ok i r ≡ equal_row_fault M N ko i r
   row_same i r = ap (λ v. cond (ltb r.left M.n && ltb r.right N.n) v (Some (NoSuchState i)))
-      (ap (λ v. or_else v (first (move_fault (λ y x. ok x y) (M.moves r.left) i Right) 0 (N.moves r.right))) (moves_same M.n N.n ok ko i Left 0 (M.moves r.left) (N.moves r.right) (lM.sound r.left) (lN.sound r.right) h)
-      ∙ ap (λ v. or_else (first (move_fault ko (N.moves r.right) i Left) 0 (M.moves r.left)) v) (moves_same N.n M.n (λ y x. ok x y) (λ y x. ko x y) i Right 0 (N.moves r.right) (M.moves r.left) (lN.sound r.right) (lM.sound r.left) (λ y x ly lx. h x y lx ly)))
+      (ap (λ v. or_else v (first (move_fault (λ y x. ok x y) (M.moves r.left) i 1) 0 (N.moves r.right))) (moves_same M.n N.n ok ko i 0 0 (M.moves r.left) (N.moves r.right) (lM.sound r.left) (lN.sound r.right) h)
+      ∙ ap (λ v. or_else (first (move_fault ko (N.moves r.right) i 0) 0 (M.moves r.left)) v) (moves_same N.n M.n (λ y x. ok x y) (λ y x. ko x y) i 1 0 (N.moves r.right) (M.moves r.left) (lN.sound r.right) (lM.sound r.left) (λ y x ly lx. h x y lx ly)))
 
   pub rows_same : (i : ℕ) (rows : List EqualRow) → first (equal_row_fault M N ok) i rows ≡ first (equal_row_fault M N ko) i rows
   rows_same i [] = refl

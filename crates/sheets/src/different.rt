@@ -2,6 +2,7 @@ ghost use Rattle.std.specs.Prelude.{◌≡◌, ◌<◌, ◌↔◌, length, Ok, E
 ghost use Rattle.theory.specs.Layers.{shown};
 ghost use Rattle.theory.specs.Faults.{first_fault, passed};
 ghost use Rattle.certificates.specs.declared.fault.SheetFault.{SheetFault as Fault};
+ghost use Rattle.certificates.specs.Faults.{side_number};
 ghost use Rattle.certificates.specs.DifferentSheets.{earlier, named_fault, different_row_fault, last_is, different_fault, AcceptedDifferent, RefusedDifferent, DifferentDecided};
 
 use super::compared::Compared;
@@ -26,10 +27,11 @@ fn check_named<Y: Layer, S: System, T: System, P: Held>(
     side: Side,
     k: usize,
 ) -> Result<(), SheetFault>
-    ensures { result ≡ passed (named_fault (P.Held.holds pairs.now) ((shown Y.Layer.rule (S.System.meaning mine.entry.system.now)).moves mine.entry.s) ((shown Y.Layer.rule (T.System.meaning other.entry.system.now)).moves other.entry.s) row side k) }
+    ensures { result ≡ passed (named_fault (P.Held.holds pairs.now) ((shown Y.Layer.rule (S.System.meaning mine.entry.system.now)).moves mine.entry.s) ((shown Y.Layer.rule (T.System.meaning other.entry.system.now)).moves other.entry.s) row (side_number side) k) }
 {
     let named = mine.nth(k).ok_or(SheetFault::NoSuchMove { row })?;
     if has_answer(named, other, &Outside::of(pairs)) {
+        let side = side.number();
         return Err(SheetFault::Unanswered { row, side, k });
     }
     Ok(())

@@ -2,6 +2,7 @@ ghost use Rattle.std.specs.Prelude.{◌≡◌, ℕ, ◌&&◌, ◌↔◌, Ok, Err
 ghost use Rattle.theory.specs.Layers.{shown};
 ghost use Rattle.theory.specs.Faults.{first_fault, passed};
 ghost use Rattle.certificates.specs.declared.fault.SheetFault.{SheetFault as Fault};
+ghost use Rattle.certificates.specs.Faults.{side_number};
 ghost use Rattle.certificates.specs.EqualSheets.{listed, move_fault, equal_row_fault, equal_fault, AcceptedEqual, RefusedEqual, EqualDecided};
 ghost use Rattle.sheets.specs.Bitmaps.{within, pair_bit};
 
@@ -33,8 +34,9 @@ fn check_answers<Y: Layer, S: System, T: System, P: Held>(
     row: usize,
     side: Side,
 ) -> Result<(), SheetFault>
-    ensures { result ≡ passed (first_fault (move_fault (P.Held.holds pairs.now) ((shown Y.Layer.rule (T.System.meaning other.entry.system.now)).moves other.entry.s) row side) 0 ((shown Y.Layer.rule (S.System.meaning mine.entry.system.now)).moves mine.entry.s)) }
+    ensures { result ≡ passed (first_fault (move_fault (P.Held.holds pairs.now) ((shown Y.Layer.rule (T.System.meaning other.entry.system.now)).moves other.entry.s) row (side_number side)) 0 ((shown Y.Layer.rule (S.System.meaning mine.entry.system.now)).moves mine.entry.s)) }
 {
+    let side = side.number();
     match find_unanswered(mine, other, pairs) {
         Some(k) => Err(SheetFault::Unanswered { row, side, k }),
         None => Ok(()),

@@ -32,7 +32,7 @@ impl SheetFault {
             SheetFault::Unanswered { row, side, k } => Report {
                 number: 17,
                 place: row,
-                side: side.number(),
+                side,
                 k,
             },
             SheetFault::NotAsked => Report {
