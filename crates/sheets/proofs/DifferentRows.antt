@@ -43,7 +43,7 @@ module _ (M N : Lts) (lM : Lawful M) (lN : Lawful N) (ok ko : ℕ → ℕ → Bo
       ∙ ap (λ v. cond (eqb r.side 0) (named_fault ko (M.moves r.left) (N.moves r.right) i 0 r.k) (cond (eqb r.side 1) v (Some (NoSuchMove i)))) right)
 
 -- the bitmap of the pairs of the first i rows serves as well as the rows
-pub gathered_row : (rule : Layering) (M N : Lts) → Lawful M → Lawful N → (m1 m2 : ℕ) → m1 ≡ M.n → m2 ≡ N.n → (words : List ℕ) (rows : List DifferentRow) (i : ℕ) (r : DifferentRow) → Gathered M.n N.n words (map pair_of (take i rows))
+pub gathered_row : (rule : Layering) (M N : Lts) → Lawful M → Lawful N → (m1 m2 : ℕ) → m1 ≡ M.n → m2 ≡ N.n → (words : List ℕ) (rows : List DifferentRow) (i : ℕ) (r : DifferentRow) → Gathered M.n N.n (λ x y. false) words (map pair_of (take i rows))
     → different_row_fault (shown rule M) (shown rule N) (pair_bit m1 m2 words) i r ≡ different_row_fault (shown rule M) (shown rule N) (earlier rows i) i r
 gathered_row rule M N lM lN m1 m2 e f words rows i r h = row_same (shown rule M) (shown rule N) (shown_lawful rule M lM) (shown_lawful rule N lN) (pair_bit m1 m2 words) (earlier rows i) (λ x y lx ly.
     ap (λ v. pair_bit v m2 words x y) e ∙ ap (λ v. pair_bit M.n v words x y) f ∙ h x y

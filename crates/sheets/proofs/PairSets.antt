@@ -1,6 +1,7 @@
 -- A bitmap into which pairs are put one after another.
 use Rattle.std.proofs.Common.{◌≡◌, ℕ, ◌+◌, ◌*◌, ◌/◌, ◌%◌, ◌^◌, ◌<◌, Bool, true, false, ◌&&◌, ◌||◌, eqb, ltb, List, [], ◌∷◌, ◌++◌, replicate, sym, refl, ap, ◌∙◌, inl, inr, arith}
 use Rattle.std.proofs.lemmas.Nat.{div-mul-add, mod-mul-add, div_below, pow_pos}
+use Rattle.std.proofs.Math.Bool.{or-false}
 use Rattle.std.proofs.lemmas.List.{get_or-replicate, get_or_past, length-replicate}
 use Rattle.std.proofs.lemmas.Bool.{cases_eq, cases_lt, and_parts, ltb-true, eq-eqb, ne_eqb}
 use Rattle.refinement.specs.Cells.{some}
@@ -54,29 +55,42 @@ some_push p (z ∷ xs) x = ap (λ b. p z || b) (some_push p xs x) ∙ go (p z) (
 pub listed_push : (rows : List EqualRow) (r : EqualRow) (a b : ℕ) → listed (rows ++ (r ∷ [])) a b ≡ (listed rows a b || (eqb r.left a && eqb r.right b))
 listed_push rows r a b = some_push (λ (z : EqualRow). eqb z.left a && eqb z.right b) rows r
 
--- the bitmap holds the pairs, as far as their states exist
-abbrev pub Gathered : ℕ → ℕ → List ℕ → List EqualRow → Type 0
-Gathered n1 n2 words pairs = (a b : ℕ) → pair_bit n1 n2 words a b ≡ (within n1 n2 a b && listed pairs a b)
+-- the bitmap holds the pairs, as far as their states exist, beside those that it held before
+abbrev pub Gathered : ℕ → ℕ → (ℕ → ℕ → Bool) → List ℕ → List EqualRow → Type 0
+Gathered n1 n2 held words pairs = (a b : ℕ) → pair_bit n1 n2 words a b ≡ (held a b || (within n1 n2 a b && listed pairs a b))
 
-pub gathered_at : (n1 n2 m1 m2 : ℕ) (words : List ℕ) (pairs all : List EqualRow) → m1 ≡ n1 → m2 ≡ n2 → pairs ≡ all → Gathered n1 n2 words pairs
-    → (a b : ℕ) → pair_bit m1 m2 words a b ≡ (within n1 n2 a b && listed all a b)
-gathered_at n1 n2 m1 m2 words pairs all e f m inv a b = ap (λ v. pair_bit v m2 words a b) e ∙ ap (λ v. pair_bit n1 v words a b) f ∙ inv a b ∙ ap (λ rs. within n1 n2 a b && listed rs a b) m
+pub gathered_none : (n1 n2 : ℕ) (words : List ℕ) → Gathered n1 n2 (pair_bit n1 n2 words) words []
+gathered_none n1 n2 words a b = go (within n1 n2 a b) (bit_at words (a * n2 + b))
+  where
+    go : (u v : Bool) → (u && v) ≡ ((u && v) || (u && false))
+    go true v = sym (or-false v)
+    go false v = refl
 
-pub gathered_none : (n1 n2 : ℕ) (words : List ℕ) → ((k : ℕ) → bit_at words k ≡ false) → Gathered n1 n2 words []
-gathered_none n1 n2 words none a b = ap (λ v. within n1 n2 a b && v) (none (a * n2 + b))
+-- a set that was empty
+pub gathered_new : (n1 n2 k1 k2 m1 m2 : ℕ) (none words : List ℕ) (rows : List EqualRow) → k1 ≡ n1 → k2 ≡ n2 → m1 ≡ k1 → m2 ≡ k2 → ((k : ℕ) → bit_at none k ≡ false) → Gathered k1 k2 (pair_bit k1 k2 none) words rows
+    → (a b : ℕ) → pair_bit m1 m2 words a b ≡ (within n1 n2 a b && listed rows a b)
+gathered_new n1 n2 k1 k2 m1 m2 none words rows d e f g empty h a b =
+    ap (λ v. pair_bit v m2 words a b) f ∙ ap (λ v. pair_bit k1 v words a b) g ∙ h a b
+    ∙ ap (λ v. (within k1 k2 a b && v) || (within k1 k2 a b && listed rows a b)) (empty (a * k2 + b)) ∙ go (within k1 k2 a b) (listed rows a b)
+    ∙ ap (λ v. within v k2 a b && listed rows a b) d ∙ ap (λ v. within n1 v a b && listed rows a b) e
+  where
+    go : (u v : Bool) → ((u && false) || (u && v)) ≡ (u && v)
+    go true v = refl
+    go false v = refl
 
 -- a step of a loop that puts pairs in
-pub gathered_more : (n1 n2 m1 m2 : ℕ) (words new : List ℕ) (pairs more : List EqualRow) (r : EqualRow) → m1 ≡ n1 → m2 ≡ n2 → more ≡ pairs ++ (r ∷ []) → Gathered n1 n2 words pairs
-    → ((a b : ℕ) → pair_bit m1 m2 new a b ≡ (pair_bit m1 m2 words a b || (within m1 m2 a b && (eqb r.left a && eqb r.right b)))) → Gathered n1 n2 new more
-gathered_more n1 n2 m1 m2 words new pairs more r e f m inv put a b =
+pub gathered_more : (n1 n2 : ℕ) (held : ℕ → ℕ → Bool) (m1 m2 : ℕ) (words new : List ℕ) (pairs more : List EqualRow) (r : EqualRow) → m1 ≡ n1 → m2 ≡ n2 → more ≡ pairs ++ (r ∷ []) → Gathered n1 n2 held words pairs
+    → ((a b : ℕ) → pair_bit m1 m2 new a b ≡ (pair_bit m1 m2 words a b || (within m1 m2 a b && (eqb r.left a && eqb r.right b)))) → Gathered n1 n2 held new more
+gathered_more n1 n2 held m1 m2 words new pairs more r e f m inv put a b =
     ap (λ v. pair_bit v n2 new a b) (sym e) ∙ ap (λ v. pair_bit m1 v new a b) (sym f) ∙ put a b
     ∙ ap (λ v. pair_bit v m2 words a b || (within v m2 a b && (eqb r.left a && eqb r.right b))) e
     ∙ ap (λ v. pair_bit n1 v words a b || (within n1 v a b && (eqb r.left a && eqb r.right b))) f
     ∙ ap (λ v. v || (within n1 n2 a b && (eqb r.left a && eqb r.right b))) (inv a b)
-    ∙ go (within n1 n2 a b) (listed pairs a b) (eqb r.left a && eqb r.right b)
-    ∙ ap (λ v. within n1 n2 a b && v) (sym (listed_push pairs r a b))
-    ∙ ap (λ rs. within n1 n2 a b && listed rs a b) (sym m)
+    ∙ go (held a b) (within n1 n2 a b) (listed pairs a b) (eqb r.left a && eqb r.right b)
+    ∙ ap (λ v. held a b || (within n1 n2 a b && v)) (sym (listed_push pairs r a b))
+    ∙ ap (λ rs. held a b || (within n1 n2 a b && listed rs a b)) (sym m)
   where
-    go : (u v w : Bool) → ((u && v) || (u && w)) ≡ (u && (v || w))
-    go true v w = refl
-    go false v w = refl
+    go : (h u v w : Bool) → ((h || (u && v)) || (u && w)) ≡ (h || (u && (v || w)))
+    go true u v w = refl
+    go false true v w = refl
+    go false false v w = refl

@@ -1,4 +1,4 @@
-ghost use Rattle.std.specs.Prelude.{◌≡◌, ℕ, ◌&&◌, ◌↔◌, Ok, Err};
+ghost use Rattle.std.specs.Prelude.{◌≡◌, ℕ, ◌&&◌, ◌||◌, ◌↔◌, Ok, Err};
 ghost use Rattle.theory.specs.Layers.{shown};
 ghost use Rattle.theory.specs.Faults.{first_fault, passed};
 ghost use Rattle.certificates.specs.declared.fault.SheetFault.{SheetFault as Fault};
@@ -18,6 +18,16 @@ use certificates::side::Side;
 use layers::layer::Layer;
 use std::marker::PhantomData;
 use systems::system::System;
+
+// Adds the pairs of the rows, as far as their states exist. The set is lent, since one that is handed out is copied.
+fn gather(rows: &[EqualRow], pairs: &mut PairSet)
+    ensures sizes { (pairs.new.n1 ≡ pairs.old.n1) × (pairs.new.n2 ≡ pairs.old.n2) }
+    ensures pairs { (a b : ℕ) → pair_bit pairs.old.n1 pairs.old.n2 pairs.new.words a b ≡ (pair_bit pairs.old.n1 pairs.old.n2 pairs.old.words a b || (within pairs.old.n1 pairs.old.n2 a b && listed rows.now a b)) }
+{
+    for row in rows {
+        pairs.insert(row.left, row.right);
+    }
+}
 
 fn is_listed(rows: &[EqualRow], s: usize, t: usize) -> bool
     ensures { result ≡ listed rows.now s t }
@@ -44,17 +54,6 @@ fn check_answers<Y: Layer, S: System, T: System, P: Held>(
 }
 
 impl<Y: Layer, S: System, T: System> Compared<'_, Y, S, T> {
-    // The pairs of the rows, as far as their states exist.
-    fn gather(&self, rows: &[EqualRow]) -> PairSet
-        ensures { (a b : ℕ) → pair_bit result.n1 result.n2 result.words a b ≡ (within (S.System.meaning self.now.left.now).n (T.System.meaning self.now.right.now).n a b && listed rows.now a b) }
-    {
-        let mut pairs = PairSet::new(self.left, self.right);
-        for row in rows {
-            pairs.insert(row.left, row.right);
-        }
-        pairs
-    }
-
     // The states of a row exist, and answer each other within the pairs.
     fn check_equal_row<P: Held>(
         &self,
@@ -86,7 +85,8 @@ impl<Y: Layer, S: System, T: System> Compared<'_, Y, S, T> {
         ensures { result ≡ passed (equal_fault (shown Y.Layer.rule (S.System.meaning self.now.left.now)) (shown Y.Layer.rule (T.System.meaning self.now.right.now)) rows.now s t) }
     {
         check_count(rows.len())?;
-        let pairs = self.gather(rows);
+        let mut pairs = PairSet::new(self.left, self.right);
+        gather(rows, &mut pairs);
         self.check_equal_rows(&pairs, rows)?;
         check_asked(is_listed(rows, s, t))
     }

@@ -1,4 +1,4 @@
-use Rattle.std.proofs.Common.{ap, ◌∙◌}
+use Rattle.std.proofs.Common.{false, ap, ◌∙◌}
 use Rattle.std.proofs.lemmas.List.{map_more}
 use Rattle.std.proofs.lemmas.Result.{err_from_is_err_and}
 use Rattle.theory.specs.Faults.{passed}
@@ -27,6 +27,6 @@ loop-i-preserved g c =
     let same = gathered_row g.Y.Layer.rule _ _ (g.S.System.lawful c.args.self.now.left.now) (g.T.System.lawful c.args.self.now.right.now) p.n1 p.n2 e.0 e.1 p.words rows i (different_row rows i) e.2 in (
       c.insert.ensures.sizes.0 ∙ e.0,
       c.insert.ensures.sizes.1 ∙ e.1,
-      gathered_more _ _ p.n1 p.n2 p.words c.insert.new.self.words _ _ (pair_of (different_row rows i)) e.0 e.1 (map_more pair_of rows i _ c.loop-i-test.true) e.2 c.insert.ensures.pairs,
+      gathered_more _ _ (λ a b. false) p.n1 p.n2 p.words c.insert.new.self.words _ _ (pair_of (different_row rows i)) e.0 e.1 (map_more pair_of rows i _ c.loop-i-test.true) e.2 c.insert.ensures.pairs,
       passed_here _ rows i e.3 _ _ c.loop-i-test.true (c.in_ok-check_different_row.ensures ∙ ap passed same),
     )
