@@ -30,13 +30,22 @@ module _ {X Y : Type 0} (b : X → Bool) (g : ℕ → Y) where
 pub fault_numbered : (ok : ℕ → ℕ → Bool) (ks : List Move) (i side : ℕ) (ms : List Move) → first (move_fault ok ks i side) 0 ms ≡ option_map (Unanswered i side) (first_unanswered ok ms ks)
 fault_numbered ok ks i side ms = first_mapped (answered ok ks) (Unanswered i side) 0 ms
 
--- a row that the left side passes has the fault of the right side
-pub row_right : (M N : Lts) (ok : ℕ → ℕ → Bool) (i : ℕ) (r : EqualRow) (u v : Unit {0}) (o : Result (Unit {0}) SheetFault)
+-- a row that the left side passes has the fault of the right side, where the states and the pairs that are asked are the row's
+right_fault : (M N : Lts) (ok : ℕ → ℕ → Bool) (i : ℕ) (r : EqualRow) (u v : Unit {0}) (o : Result (Unit {0}) SheetFault)
     → Ok u ≡ passed (cond (ltb r.left M.n && ltb r.right N.n) None (Some (NoSuchState i)))
     → Ok v ≡ passed (first (move_fault ok (N.moves r.right) i 0) 0 (M.moves r.left))
     → o ≡ passed (first (move_fault (λ y x. ok x y) (M.moves r.left) i 1) 0 (N.moves r.right))
     → o ≡ passed (equal_row_fault M N ok i r)
-row_right M N ok i r u v o h l e = grind arith
+right_fault M N ok i r u v o h l e = grind arith
+
+pub row_right : {X Y P : Type 0} (rule : Layering) (m : X → Lts) (n : Y → Lts) (holds : P → ℕ → ℕ → Bool) (left mine : X) (right other : Y) (pairs flipped : P) (s t i : ℕ) (r : EqualRow) (u v : Unit {0}) (o : Result (Unit {0}) SheetFault)
+    → Ok u ≡ passed (cond (ltb r.left (m left).n && ltb r.right (n right).n) None (Some (NoSuchState i)))
+    → Ok v ≡ passed (first (move_fault (holds pairs) ((shown rule (n other)).moves t) i 0) 0 ((shown rule (m mine)).moves s))
+    → o ≡ passed (first (move_fault (λ y x. holds flipped x y) ((shown rule (m mine)).moves s) i 1) 0 ((shown rule (n other)).moves t))
+    → mine ≡ left → s ≡ r.left → other ≡ right → t ≡ r.right → flipped ≡ pairs
+    → o ≡ passed (equal_row_fault (shown rule (m left)) (shown rule (n right)) (holds pairs) i r)
+row_right rule m n holds left mine right other pairs flipped s t i r u v o h l e a b c d f =
+    right_fault (shown rule (m left)) (shown rule (n right)) (holds pairs) i r u v o h (rw (a, b, c, d) at l) (rw (f, a, b, c, d) at e)
 
 -- relations that agree on states
 pub answered_same : (n : ℕ) (ok ko : ℕ → ℕ → Bool) (m : Move) (ks : List Move) → AllByRecursion (Sound n) ks → ((y : ℕ) → y < n → ok m.1 y ≡ ko m.1 y) → answered ok ks m ≡ answered ko ks m
