@@ -15,7 +15,6 @@ pub fn kept(
     ensures { IfOk result (λ v. moves_of v.items ≡ filter (open_move pair.first pair.second) (moves_of ms.now)) }
 {
     ms.iter()
-        .copied()
-        .filter(|m| !m.0.is_barred_by(pair))
+        .filter_map(|m| (!m.0.is_barred_by(pair)).then_some(*m))
         .collect(heap)
 }
