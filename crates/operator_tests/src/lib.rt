@@ -4,6 +4,8 @@
 #[cfg(test)]
 mod composed;
 #[cfg(test)]
+mod copied;
+#[cfg(test)]
 mod listing;
 #[cfg(test)]
 mod relabelled;
