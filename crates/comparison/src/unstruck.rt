@@ -1,10 +1,10 @@
-ghost use Rattle.std.specs.Prelude.{◌≡◌};
-ghost use Rattle.refinement.specs.Cells.{together};
+ghost use Rattle.std.specs.Prelude.{◌≡◌, ◌+◌, ◌*◌, ◌%◌, ◌^◌};
+ghost use Rattle.refinement.specs.Cells.{low};
 
-use super::pairs::cell_of_pair;
 use answers::held::Held;
 
-// The pairs that were kept when the round began: their cells are zero, or the round wrote its number over the zeros.
+// The pairs that were kept when the round began: their cells are zero, or the round wrote its number over the zeros. Which
+// others are in the set doesn't matter, since a transition leads to a state, so the cell's number may wrap.
 #[derive(Clone, Copy)]
 pub(crate) struct Unstruck<'a> {
     pub(crate) cells: &'a [u32],
@@ -13,10 +13,11 @@ pub(crate) struct Unstruck<'a> {
 }
 
 impl Held for Unstruck<'_> {
-    ghost holds = { λ p. together p.cells.now p.round p.n2 };
+    ghost holds = { λ p x y. low p.cells.now p.round ((x * p.n2 % 2 ^ 64 + y) % 2 ^ 64) };
 
     fn has(&self, left: usize, right: usize) -> bool {
-        let cell = cell_of_pair(self.cells, self.n2, left, right);
+        let place = left.wrapping_mul(self.n2).wrapping_add(right);
+        let cell = self.cells.get(place).copied().unwrap_or(0);
         cell == 0 || cell == self.round
     }
 }
