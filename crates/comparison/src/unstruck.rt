@@ -1,5 +1,5 @@
-ghost use Rattle.std.specs.Prelude.{◌≡◌, ◌+◌, ◌*◌, ◌%◌, ◌^◌};
-ghost use Rattle.refinement.specs.Cells.{low};
+ghost use Rattle.std.specs.Prelude.{◌≡◌};
+ghost use Rattle.comparison.specs.Wraps.{together_wrapped};
 
 use answers::held::Held;
 
@@ -13,7 +13,7 @@ pub(crate) struct Unstruck<'a> {
 }
 
 impl Held for Unstruck<'_> {
-    ghost holds = { λ p x y. low p.cells.now p.round ((x * p.n2 % 2 ^ 64 + y) % 2 ^ 64) };
+    ghost holds = { λ p. together_wrapped p.cells.now p.round p.n2 };
 
     fn has(&self, left: usize, right: usize) -> bool {
         let place = left.wrapping_mul(self.n2).wrapping_add(right);
