@@ -32,7 +32,7 @@ def outcome_of(log, label):
     if ": refused" not in line:
         return line.split(f"/{label}.edit: ", 1)[-1][:80]
     place = re.search(r"((?:src|proofs)/[^ :]*)", line)
-    goal = re.search(r"\(`([^`]*)`\)", line) or re.search(r"error: `([^`]*)`: `goal", line) or re.search(r"`([^`]*)`", line)
+    goal = re.search(r"\(`([^`]*)`\)", line) or re.search(r"`([^`]*)`", line)
     told = (f"`{place.group(1)}`" if place else "refused") + (f", `{goal.group(1)}`" if goal else "")
     unnamed = "only because a proof file names" in line or re.search(r": `goal\.[^`]*`: module", line)
     return told + (" (only a name that a proof cites is gone)" if unnamed else "")
